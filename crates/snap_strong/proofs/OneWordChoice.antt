@@ -1,11 +1,12 @@
 -- The operations of the listing of one word in the order of their first steps are a linearization of each of its runs.
-use Rattle.std.proofs.Common.{◌≡◌, ◌≢◌, ℕ, zero, suc, ◌-◌, ◌<◌, ◌≤◌, max, Bool, true, false, List, [], ◌∷◌, ◌++◌, map}
-use Rattle.std.proofs.Common.{length, Option, Some, None, nat_eq, replicate, refl, sym, ◌∙◌, ap, subst, arith, inl, inr}
-use Rattle.std.specs.List.{AllByRecursion, Contains}
+use Rattle.std.proofs.Common.{◌≡◌, ◌≢◌, ℕ, zero, suc, ◌-◌, ◌<◌, ◌≤◌, max, List, [], ◌∷◌, ◌++◌, map}
+use Rattle.std.proofs.Common.{slice_index_or, length, Option, Some, None, nat_eq, replicate, refl, sym, ◌∙◌, ap, subst, arith, inl, inr}
+use Rattle.std.specs.List.{All, Contains}
 use Rattle.std.proofs.Math.Nat.{eq-or-lt_of_le}
 use Rattle.std.proofs.lemmas.Bool.{cases_eq}
 use Rattle.std.proofs.lemmas.List.{length-replicate, get_or-replicate}
-use Rattle.std.proofs.lemmas.List.Elements.{All-from_recursion, Contains-append_left, Contains-push}
+use Rattle.std.proofs.lemmas.List.Elements.{All-map, All-push, All-weaker, All-contains, recursion_from_All}
+use Rattle.std.proofs.lemmas.List.Elements.{Contains-append_left, Contains-push}
 use Rattle.snap_runs.proofs.Common.{IsOneOf, Word, Item, Call, Outcome, Process, State, process_at}
 use Rattle.snap_runs.proofs.Common.{values, who, Run, IsValidRun, state, item}
 use Rattle.snap_words.specs.Kind.{initial_word}
@@ -21,16 +22,15 @@ use Rattle.snap_runs.proofs.Audits.{last_call_under}
 use Rattle.snap_runs.proofs.Calls.{EndsWith, IsEnd, Calls, UnderCall, UnderAt, item_one, one_call, under}
 use Rattle.snap_runs.proofs.Computing.{other_number, same_number}
 use Rattle.snap_runs.proofs.Embedding.{next_state}
-use Rattle.snap_runs_of_u.specs.ListingU.{a, s}
-use Rattle.snap_runs.proofs.Order.{Pairs, Apart, all_pairs, all_push, all_weaker, pairs_push, keeps_order}
+use Rattle.snap_runs.proofs.Order.{Pairs, Apart, all_pairs, pairs_push, keeps_order}
 use Rattle.snap_strong.specs.StrongLinearization.{IsCompleted, IsCompletedLinearization}
 use Rattle.snap_strong.specs.OneWord.{one_word, shared_by}
 use Rattle.snap_strong.proofs.OneWordItems.{booked, process, Stage, idle, stage_map, stage_begun, stage_closed}
 use Rattle.snap_strong.proofs.OneWordItems.{Leaves, Quiet, Begins, Closes, item_does}
 use Rattle.snap_strong.proofs.Placed.{op_of, outcome_of, ends_so, ends_is_end, same_action, end_at, ended}
-use Rattle.snap_strong.proofs.Placed.{not_ended_before, ended_now, EndUpTo, Placed, placed_longer, placed_closed}
-use Rattle.snap_strong.proofs.Placed.{ended_at, placed_shorter, not_before_itself, completed, placed, all_map}
-use Rattle.snap_strong.proofs.Placed.{all_both, contained, Contains-map, pairs_ended, RunsTo}
+use Rattle.snap_strong.proofs.Placed.{not_ended_before, ended_now, ended_once, GoesOn, EndUpTo, Placed, placed_longer, placed_closed}
+use Rattle.snap_strong.proofs.Placed.{ended_at, placed_shorter, not_before_itself, completed, placed}
+use Rattle.snap_strong.proofs.Placed.{Contains-map, pairs_ended, RunsTo}
 use Rattle.snap_strong.proofs.Placed.{starts_from, runs_ended, segments_more}
 
 -- the operations that have taken place up to item t + 1, where these have up to item t
@@ -46,25 +46,32 @@ taken r zero = []
 taken r (suc t) = booked_at r t (taken r t)
 
 -- None of process i has taken place and not ended.
+abbrev IsNone : ℕ → Operation → Type 0
+IsNone i o = o.process ≡ i → o.end ≡ None → ⊥
+
 abbrev Free : ℕ → List Operation → Type 0
-Free i os = AllByRecursion (λ o. o.process ≡ i → o.end ≡ None → ⊥) os
+Free i os = All (IsNone i) os
 
 -- One has, and did this.
 abbrev its : ℕ → ℕ → Action → Operation
 its i c b = record { process = i; call = c; end = None; action = b }
 
+abbrev IsOnly : ℕ → Action → Operation → Type 0
+IsOnly i b o = o.process ≡ i → o.end ≡ None → o.action ≡ b
+
 abbrev Took : ℕ → List Operation → Action → Type 0
-Took i os b = (c : ℕ) × Contains os (its i c b) × AllByRecursion (λ o. o.process ≡ i → o.end ≡ None → o.action ≡ b) os
+Took i os b = (c : ℕ) × Contains os (its i c b) × All (IsOnly i b) os
 
 free_ended : (i k e : ℕ) (os : List Operation) → Free i os → Free i (map (ended k e) os)
 free_ended i k e os h =
-    all_map (λ o. o.process ≡ i → o.end ≡ None → ⊥) (λ o. o.process ≡ i → o.end ≡ None → ⊥) (ended k e) os
-    (λ o none his still. none his (not_ended_before (nat_eq o.process k) e o.end still)) h
+    All-map (IsNone i) (ended k e) os (λ j d lt his still.
+    let o = slice_index_or os j d in h j d lt his (not_ended_before (nat_eq o.process k) e o.end still))
 
-free_now : (i e : ℕ) (os : List Operation) → AllByRecursion (λ o. Unit {0}) os → Free i (map (ended i e) os)
-free_now i e os h =
-    all_map (λ o. Unit {0}) (λ o. o.process ≡ i → o.end ≡ None → ⊥) (ended i e) os
-    (λ o u his still. ended_now (nat_eq o.process i) e o.end (ap (λ y. nat_eq y i) his ∙ same_number i) still) h
+free_now : (i e : ℕ) (os : List Operation) → Free i (map (ended i e) os)
+free_now i e os =
+    All-map (IsNone i) (ended i e) os (λ j d lt his still.
+    let o = slice_index_or os j d in
+    ended_now (nat_eq o.process i) e o.end (ap (λ y. nat_eq y i) his ∙ same_number i) still)
 
 its_kept : (i k e c : ℕ) (b : Action) → i ≢ k → ended k e (its i c b) ≡ its i c b
 its_kept i k e c b other =
@@ -75,35 +82,24 @@ took_ended : (i k e : ℕ) (os : List Operation) (b : Action) → i ≢ k → To
 took_ended i k e os b other h = (
   h.0,
   subst (Contains (map (ended k e) os)) (its_kept i k e h.0 b other) (Contains-map (ended k e) os (its i h.0 b) h.1),
-  all_map (λ o. o.process ≡ i → o.end ≡ None → o.action ≡ b)
-      (λ o. o.process ≡ i → o.end ≡ None → o.action ≡ b) (ended k e) os
-      (λ o only his still. only his (not_ended_before (nat_eq o.process k) e o.end still)) h.2,
+  All-map (IsOnly i b) (ended k e) os (λ j d lt his still.
+      let o = slice_index_or os j d in h.2 j d lt his (not_ended_before (nat_eq o.process k) e o.end still)),
 )
-
-free_more : (i : ℕ) (os : List Operation) (o : Operation) → o.process ≢ i → Free i os → Free i (os ++ o ∷ [])
-free_more i os o other h = all_push (λ x. x.process ≡ i → x.end ≡ None → ⊥) os o h (λ his still. other his)
 
 took_more : (i : ℕ) (os : List Operation) (o : Operation) (b : Action) → o.process ≢ i → Took i os b →
     Took i (os ++ o ∷ []) b
 took_more i os o b other h = (
   h.0,
   Contains-append_left os (o ∷ []) (its i h.0 b) h.1,
-  all_push (λ x. x.process ≡ i → x.end ≡ None → x.action ≡ b) os o h.2 (λ his still. absurd (other his)),
+  All-push (IsOnly i b) os o h.2 (λ his still. absurd (other his)),
 )
 
 took_now : (i c : ℕ) (os : List Operation) (b : Action) → Free i os → Took i (os ++ its i c b ∷ []) b
 took_now i c os b h = (
   c,
   Contains-push os (its i c b),
-  all_push (λ x. x.process ≡ i → x.end ≡ None → x.action ≡ b) os (its i c b)
-      (all_weaker (λ x. x.process ≡ i → x.end ≡ None → ⊥) (λ x. x.process ≡ i → x.end ≡ None → x.action ≡ b) os
-      (λ x none his still. absurd (none his still)) h)
-      (λ his still. refl),
+  All-push (IsOnly i b) os (its i c b) (λ j d lt his still. absurd (h j d lt his still)) (λ his still. refl),
 )
-
-all_unit : (os : List Operation) → AllByRecursion (λ o. Unit {0}) os
-all_unit [] = tt
-all_unit (o ∷ os) = (tt, all_unit os)
 
 module _ (n : ℕ) (items : List Item) (fits : IsValidRun (run_of_items one_word (shared_by n) items)) where
   abbrev r : Run
@@ -115,7 +111,7 @@ module _ (n : ℕ) (items : List Item) (fits : IsValidRun (run_of_items one_word
     word_is : (state r t).memory.words ≡ word ∷ []
     count : length (state r t).processes ≡ n
     stages : (i : ℕ) → IsOneOf n i → Stage (Free i os) (Took i os) (process_at (state r t) i)
-    placed : AllByRecursion (Placed r t) os
+    placed : All (Placed r t) os
     apart : Pairs Apart os
     complete : (o : Operation) → Placed r t o → HasEnded o → Contains os o
     runs : RunsTo (0 ∷ []) os (word.datum ∷ [])
@@ -127,17 +123,10 @@ module _ (n : ℕ) (items : List Item) (fits : IsValidRun (run_of_items one_word
   abbrev others_words : List Word
   others_words = replicate (max n 1 - 1) first_word
 
-  abbrev with_words : List Word → Process
-  with_words ws = record {
-    status = Idle;
-    locals = record { scalars = []; rows = []; words = (a, ws) ∷ []; views = (s, 0 ∷ []) ∷ [] };
-  }
-
-  first_process : (i : ℕ) → IsOneOf n i → process_at (state r 0) i ≡ process Idle first_word others_words (0 ∷ [])
-  first_process i one =
-      let more : max n 1 ≡ suc (max n 1 - 1) = omega arith in
-      get_or-replicate n (i - 1) (initial_process one_word (shared_by n)) nobody (omega arith)
-      ∙ ap with_words (ap (λ k. replicate k first_word) more)
+  first_process : (i k : ℕ) → IsOneOf n i → max n 1 ≡ suc k →
+      process_at (state r 0) i ≡ process Idle first_word (replicate k first_word) (0 ∷ [])
+  first_process i k one more =
+      get_or-replicate n (i - 1) (initial_process one_word (shared_by n)) nobody (omega arith) ∙ rw more refl
 
   first_book : Book 0 []
   first_book = record {
@@ -146,8 +135,9 @@ module _ (n : ℕ) (items : List Item) (fits : IsValidRun (run_of_items one_word
     count = length-replicate n (initial_process one_word (shared_by n));
     stages =
         λ i one.
-        subst (Stage (Free i []) (Took i [])) (sym (first_process i one)) (idle first_word others_words (0 ∷ []) tt);
-    placed = tt;
+        subst (Stage (Free i []) (Took i [])) (sym (first_process i (max n 1 - 1) one (omega arith)))
+        (idle first_word others_words (0 ∷ []) (λ k d lt. absurd (omega arith)));
+    placed = λ k d lt. absurd (omega arith);
     apart = tt;
     complete = λ o p some. absurd (omega arith);
     runs = refl;
@@ -170,19 +160,22 @@ module _ (n : ℕ) (items : List Item) (fits : IsValidRun (run_of_items one_word
     left : (z : Word) (p : Process) → Leaves S does.0 i z p → Leaves S (state r (suc t)) i z p
     left z p h = subst (λ X. Leaves S X i z p) (sym (next_state r t lt)) h
 
-    -- how its process stands after it
-    own_stage : (os : List Operation) (p : Process) (j : ℕ) → j ≡ i → process_at (state r (suc t)) i ≡ p →
-        Stage (Free i os) (Took i os) p → Stage (Free j os) (Took j os) (process_at (state r (suc t)) j)
-    own_stage os p j same own h =
-        subst (λ k. Stage (Free k os) (Took k os) (process_at (state r (suc t)) k)) (sym same)
-        (subst (Stage (Free i os) (Took i os)) (sym own) h)
+    -- how the processes stand after it
+    stages_after : (os : List Operation) (z : Word) (p : Process) → Leaves S (state r (suc t)) i z p →
+        Stage (Free i os) (Took i os) p →
+        ((j : ℕ) → IsOneOf n j → j ≢ i → Stage (Free j os) (Took j os) (process_at S j)) →
+        (j : ℕ) → IsOneOf n j → Stage (Free j os) (Took j os) (process_at (state r (suc t)) j)
+    stages_after os z p leaves own others j his = elim (cases_eq j i) [
+      | inl same ↦ subst (λ k. Stage (Free k os) (Took k os) (process_at (state r (suc t)) k)) (sym same)
+          (subst (Stage (Free i os) (Took i os)) (sym leaves.own) own)
+      | inr other ↦ subst (Stage (Free j os) (Took j os)) (sym (leaves.others j his.0 other)) (others j his other)
+    ]
 
     -- an item that ends nothing leaves the operations placed
-    all_longer : (os : List Operation) → (IsEnd does.1 → ⊥) → AllByRecursion (Placed r t) os →
-        AllByRecursion (Placed r (suc t)) os
+    all_longer : (os : List Operation) → (IsEnd does.1 → ⊥) → All (Placed r t) os → All (Placed r (suc t)) os
     all_longer os none h =
-        all_weaker (Placed r t) (Placed r (suc t)) os
-        (λ o p. placed_longer r t o (λ still own ends. none (ends_is_end o.action does.1 ends)) p) h
+        All-weaker (Placed r t) (Placed r (suc t))
+        (λ o p. placed_longer r t o (λ still own ends. none (ends_is_end o.action does.1 ends)) p) os h
 
     ends_nothing : (o : Operation) → (IsEnd does.1 → ⊥) → Placed r (suc t) o → o.end ≡ Some (suc t) → ⊥
     ends_nothing o none h now =
@@ -198,10 +191,7 @@ module _ (n : ℕ) (items : List Item) (fits : IsValidRun (run_of_items one_word
           word = b.word;
           word_is = leaves.word;
           count = leaves.count ∙ b.count;
-          stages = λ j his. elim (cases_eq j i) [
-            | inl same ↦ own_stage os q.process j same leaves.own q.stage
-            | inr other ↦ subst (Stage (Free j os) (Took j os)) (sym (leaves.others j his.0 other)) (b.stages j his)
-          ];
+          stages = stages_after os b.word q.process leaves q.stage (λ j his other. b.stages j his);
           placed = all_longer os q.no_end b.placed;
           apart = b.apart;
           complete = λ o h some. elim (placed_shorter r t o some h) [
@@ -216,18 +206,14 @@ module _ (n : ℕ) (items : List Item) (fits : IsValidRun (run_of_items one_word
         Placed r (suc t) (its i (last_call r i t) g)
     now_placed g u out =
         let same : last_call r i t ≡ u.call = last_call_under r fits i (op_of g) t one (omega arith) u in
-        subst (λ c. Placed r (suc t) (its i c g)) (sym same) (record {
-          one = one;
-          call_is = u.is.0;
-          called = u.is.1;
-          first = u.first;
-          order = omega arith;
-          end = λ v more less his ends. let le : v ≤ suc t = omega arith in
-              elim (eq-or-lt_of_le le) [
-                | inl here ↦ subst IsEnd (ap (outcome_at r) here ∙ out) (ends_is_end g (outcome_at r v) ends)
-                | inr sooner ↦ u.open_still v more (omega arith) his (ends_is_end g (outcome_at r v) ends)
-              ];
-        })
+        let order : u.call ≤ suc t = omega arith in
+        let end : GoesOn r i u.call (op_of g) (suc (suc t)) =
+        λ v more less his ends. let le : v ≤ suc t = omega arith in
+        elim (eq-or-lt_of_le le) [
+          | inl here ↦ subst IsEnd (ap (outcome_at r) here ∙ out) (ends_is_end g (outcome_at r v) ends)
+          | inr sooner ↦ u.open_still v more (omega arith) his (ends_is_end g (outcome_at r v) ends)
+        ] in
+        subst (λ c. Placed r (suc t) (its i c g)) (sym same) (assumption one)
 
     -- the operations listed before have other calls
     other_call : (g : Action) → UnderCall r fits i (op_of g) t → (x : Operation) → Placed r t x →
@@ -261,22 +247,20 @@ module _ (n : ℕ) (items : List Item) (fits : IsValidRun (run_of_items one_word
           word = q.word;
           word_is = leaves.word;
           count = leaves.count ∙ b.count;
-          stages = λ j his. elim (cases_eq j i) [
-            | inl same ↦ own_stage more q.process j same leaves.own
-                (stage_begun (Free i more) (Took i more) q.action q.process
-                (took_now i (last_call r i t) os q.action q.free) q.stage)
-            | inr other ↦ subst (Stage (Free j more) (Took j more)) (sym (leaves.others j his.0 other))
-                (stage_map (free_more j os o (λ same. other (sym same)))
-                (λ g. took_more j os o g (λ same. other (sym same)))
-                (b.stages j his))
-          ];
-          placed = all_push (Placed r (suc t)) os o (all_longer os no_end b.placed) now;
-          apart = pairs_push Apart (λ x. Placed r t x × (x.process ≡ i → x.end ≡ None → ⊥)) os o
+          stages = stages_after more q.word q.process leaves
+              (stage_begun (Free i more) (Took i more) q.action q.process
+              (took_now i (last_call r i t) os q.action q.free) q.stage)
+              (λ j his other. let differ : i ≢ j = λ same. other (sym same) in
+              stage_map (λ free. All-push (IsNone j) os o free (λ same still. differ same))
+              (λ g. took_more j os o g differ) (b.stages j his));
+          placed = All-push (Placed r (suc t)) os o (all_longer os no_end b.placed) now;
+          apart = pairs_push Apart (λ x. Placed r t x × IsNone i x) os o
               (λ x h. (
                 other_call q.action u x h.0 h.1,
                 λ before. let none : ◌≡◌ {A = Option ℕ} None (Some before.0) = before.1 in let no : ⊥ = cc in no,
               ))
-              (all_both (Placed r t) (λ x. x.process ≡ i → x.end ≡ None → ⊥) os b.placed q.free) b.apart;
+              (recursion_from_All (λ x. Placed r t x × IsNone i x) os (λ k d lt. (b.placed k d lt, q.free k d lt)))
+              b.apart;
           complete = λ x h some. elim (placed_shorter r t x some h) [
             | inl sooner ↦ Contains-append_left os (o ∷ []) x (b.complete x sooner some)
             | inr last ↦ absurd (ends_nothing x no_end h last)
@@ -293,28 +277,27 @@ module _ (n : ℕ) (items : List Item) (fits : IsValidRun (run_of_items one_word
         let next : List Operation = map (ended i (suc t)) os in
         let leaves = left b.word q.process q.leaves in
         let mine : Operation = its i q.took.0 q.action in
-        let its_place : Placed r t mine = contained (Placed r t) os mine b.placed q.took.1 in
+        let its_place : Placed r t mine = All-contains (Placed r t) os mine b.placed q.took.1 in
         record {
           word = b.word;
           word_is = leaves.word;
           count = leaves.count ∙ b.count;
-          stages = λ j his. elim (cases_eq j i) [
-            | inl same ↦ own_stage next q.process j same leaves.own
-                (stage_closed (Free i next) (Took i next) q.process (free_now i (suc t) os (all_unit os)) q.stage)
-            | inr other ↦ subst (Stage (Free j next) (Took j next)) (sym (leaves.others j his.0 other))
-                (stage_map (free_ended j i (suc t) os) (λ g. took_ended j i (suc t) os g other) (b.stages j his))
-          ];
-          placed = all_map (λ x. Placed r t x × (x.process ≡ i → x.end ≡ None → x.action ≡ q.action)) (Placed r (suc t))
-              (ended i (suc t)) os
-              (λ x h. placed_closed r t i x refl (λ his still. q.ends ∙ ap outcome_of (sym (h.1 his still))) h.0)
-              (all_both (Placed r t) (λ x. x.process ≡ i → x.end ≡ None → x.action ≡ q.action) os b.placed q.took.2);
+          stages = stages_after next b.word q.process leaves
+              (stage_closed (Free i next) (Took i next) q.process (free_now i (suc t) os) q.stage)
+              (λ j his other.
+              stage_map (free_ended j i (suc t) os) (λ g. took_ended j i (suc t) os g other) (b.stages j his));
+          placed = All-map (Placed r (suc t)) (ended i (suc t)) os
+              (λ k d lt. placed_closed r t i (slice_index_or os k d) refl
+              (λ his still. q.ends ∙ ap outcome_of (sym (q.took.2 k d lt his still))) (b.placed k d lt));
           apart = pairs_ended i (suc t) os
-              (all_weaker (Placed r t) (λ x. x.call < suc t) os
-              (λ x h. let less : x.call < suc t = omega arith in less) b.placed)
+              (recursion_from_All (λ x. x.call < suc t) os
+              (λ k d lt. let early : (slice_index_or os k d).call ≤ t = (b.placed k d lt).order in omega arith))
               b.apart;
           complete = λ x h some. elim (placed_shorter r t x some h) [
             | inl sooner ↦
-                subst (Contains next) (kept x.end some.0 (nat_eq x.process i) some.1 x.process x.call x.action)
+                subst (Contains next)
+                (ap (λ y. let o : Operation = record x { end = y } in o)
+                (ended_once (nat_eq x.process i) (suc t) some.0 x.end some.1))
                 (Contains-map (ended i (suc t)) os x (b.complete x sooner some))
             | inr last ↦ subst (Contains next) (same_one x h last q.action q.ends q.took.0 its_place)
                 (Contains-map (ended i (suc t)) os mine q.took.1)
@@ -322,13 +305,6 @@ module _ (n : ℕ) (items : List Item) (fits : IsValidRun (run_of_items one_word
           runs = runs_ended i (suc t) (0 ∷ []) os (b.word.datum ∷ []) b.runs;
         }
       where
-        kept : (end : Option ℕ) (e : ℕ) (his : Bool) → end ≡ Some e → (k c : ℕ) (g : Action) →
-            ◌≡◌ {A = Operation} (record { process = k; call = c; end = end_at his (suc t) end; action = g })
-            (record { process = k; call = c; end = end; action = g })
-        kept None e his some k c g = absurd (cc)
-        kept (Some d) e true some k c g = refl
-        kept (Some d) e false some k c g = refl
-
         same_one : (x : Operation) → Placed r (suc t) x → x.end ≡ Some (suc t) → (g : Action) →
             outcome_at r (suc t) ≡ outcome_of g → (c : ℕ) → Placed r t (its i c g) →
             ended i (suc t) (its i c g) ≡ x
@@ -356,7 +332,7 @@ module _ (n : ℕ) (items : List Item) (fits : IsValidRun (run_of_items one_word
     next os b =
         let S_values : values S ≡ b.word.datum ∷ [] = ap (map (λ (x : Word). x.datum)) b.word_is in
         let there : IsOneOf (length S.processes) i = subst (λ m. IsOneOf m i) (sym b.count) one in
-        elim (item_does n (Free i os) (Took i os) S i b.word b.word_is there (item r (suc t)) refl (b.stages i one)) [
+        elim (item_does n (Free i os) (Took i os) S b.word b.word_is (item r (suc t)) there (b.stages i one)) [
           | inl q ↦ subst (Book (suc t)) (sym (q.booked_is (last_call r i t) (suc t) (values S) os)) (quiet os b q)
           | inr more ↦ elim more [
             | inl q ↦ subst (Book (suc t))
@@ -377,13 +353,13 @@ module _ (n : ℕ) (items : List Item) (fits : IsValidRun (run_of_items one_word
       let os = taken r (length items) in
       let b = book (length items) (omega arith) in
       record {
-        took_place = All-from_recursion (IsCompleted r) os
-            (all_weaker (Placed r (length items)) (IsCompleted r) os (completed r) b.placed);
+        took_place = All-weaker (Placed r (length items)) (IsCompleted r) (completed r) os b.placed;
         once = λ j k d lt short. (all_pairs Apart os b.apart j k d lt short).0;
         complete = λ o took some. b.complete o (placed r o took some) some;
         order = keeps_order os
-            (all_weaker (Placed r (length items)) (λ o. EndedBefore o o → ⊥) os
-            (not_before_itself r (length items)) b.placed)
+            (recursion_from_All (λ o. EndedBefore o o → ⊥) os
+            (All-weaker (Placed r (length items)) (λ o. EndedBefore o o → ⊥)
+            (not_before_itself r (length items)) os b.placed))
             b.apart;
         runs = starts_from (0 ∷ []) os (b.word.datum ∷ []) b.runs;
       }

@@ -299,14 +299,9 @@ module _ (n : ℕ) (F : Type 0) (T : Action → Type 0) (S : State) (i : ℕ) (y
   crashes p is (crashed was l) = skips p reason.Crashed is (crashed was l)
   crashes p is stage = stops p (Some _) p.status
 
-  pub item_does : (x : Item) → who x ≡ i → Stage F T (process_at S i) →
-      Case F T S i y (process_at S i).status (done one_word (shared_by n) S x)
-  item_does (Step k) his stage =
-      subst (λ j. Case F T S i y (process_at S i).status (done one_word (shared_by n) S (Step j))) (sym his)
-      (steps (process_at S i) refl stage)
-  item_does (Call k op) his stage =
-      subst (λ j. Case F T S i y (process_at S i).status (done one_word (shared_by n) S (Call j op))) (sym his)
-      (is_called (process_at S i) op refl stage)
-  item_does (Crash k) his stage =
-      subst (λ j. Case F T S i y (process_at S i).status (done one_word (shared_by n) S (Crash j))) (sym his)
-      (crashes (process_at S i) refl stage)
+pub item_does : (n : ℕ) (F : Type 0) (T : Action → Type 0) (S : State) (y : Word) → S.memory.words ≡ y ∷ [] → (x : Item) →
+    IsOneOf (length S.processes) (who x) → Stage F T (process_at S (who x)) →
+    Case F T S (who x) y (process_at S (who x)).status (done one_word (shared_by n) S x)
+item_does n F T S y word (Step i) one stage = steps n F T S i y word one (process_at S i) refl stage
+item_does n F T S y word (Call i op) one stage = is_called n F T S i y word one (process_at S i) op refl stage
+item_does n F T S y word (Crash i) one stage = crashes n F T S i y word one (process_at S i) refl stage

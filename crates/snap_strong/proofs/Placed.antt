@@ -1,10 +1,10 @@
 -- Operations that have taken place among the first items of a run of any listing, ended or not.
 use Rattle.std.proofs.Common.{◌≡◌, ℕ, suc, ◌<◌, ◌≤◌, ◌⊎◌, Bool, true, false, List, [], ◌∷◌, ◌++◌, map, length, Option}
-use Rattle.std.proofs.Common.{Some, None, nat_eq, refl, sym, ◌∙◌, ap, subst, arith, inl, inr}
+use Rattle.std.proofs.Common.{Some, None, slice_index_or, nat_eq, refl, sym, ◌∙◌, ap, subst, arith, inl, inr}
 use Rattle.std.specs.List.{AllByRecursion, Contains}
 use Rattle.std.proofs.Math.Nat.{eq-or-lt_of_le}
 use Rattle.std.proofs.lemmas.List.{length-map, get_or-map}
-use Rattle.std.proofs.lemmas.List.Elements.{All-from_recursion}
+use Rattle.std.proofs.lemmas.List.Elements.{All-map, All-from_recursion, recursion_from_All}
 use Rattle.snap_runs.proofs.Common.{IsOneOf, Call, Op, Scan, Update, Outcome, who, Run, item}
 use Rattle.snap_semantics.specs.declared.process.Outcome.TheVariants as outcome
 use Rattle.snap_runs.specs.Run.{outcome as outcome_at}
@@ -56,6 +56,11 @@ not_ended_before _ e _ h = h
 pub ended_now : (b : Bool) (e : ℕ) (end : Option ℕ) → b ≡ true → end_at b e end ≡ None → ⊥
 ended_now true e None is h = cc
 ended_now _ e _ is h = cc
+
+-- what has ended does not end again
+pub ended_once : (b : Bool) (e d : ℕ) (end : Option ℕ) → end ≡ Some d → end_at b e end ≡ end
+ended_once true e d None some = absurd (cc)
+ended_once _ e d _ some = refl
 
 ended_then : (b : Bool) (e : ℕ) (end : Option ℕ) (d : ℕ) → end_at b e end ≡ Some d → (end ≡ Some d) ⊎ (e ≡ d)
 ended_then true e None d h = inr (cc)
@@ -224,21 +229,6 @@ module _ (r : Run) where
       (placed_by o.process o.call some.0 o.action (subst (λ y. TookPlace r o.process o.call y o.action) some.1 took))
 
 -- Lists of operations, where some of them end.
-pub all_map : (P Q : Operation → Type 0) (f : Operation → Operation) (os : List Operation) →
-    ((o : Operation) → P o → Q (f o)) → AllByRecursion P os →
-    AllByRecursion Q (map f os)
-all_map P Q f [] gives h = tt
-all_map P Q f (o ∷ os) gives h = (gives o h.0, all_map P Q f os gives h.1)
-
-pub all_both : (P Q : Operation → Type 0) (os : List Operation) → AllByRecursion P os → AllByRecursion Q os →
-    AllByRecursion (λ o. P o × Q o) os
-all_both P Q [] h k = tt
-all_both P Q (o ∷ os) h k = ((h.0, k.0), all_both P Q os h.1 k.1)
-
-pub contained : (P : Operation → Type 0) (os : List Operation) (o : Operation) → AllByRecursion P os → Contains os o →
-    P o
-contained P os o h there = subst P there.2 (All-from_recursion P os h there.0 o there.1)
-
 pub Contains-map : (f : Operation → Operation) (os : List Operation) (o : Operation) → Contains os o →
     Contains (map f os) (f o)
 Contains-map f os o there =
@@ -258,7 +248,9 @@ pub pairs_ended : (k e : ℕ) (os : List Operation) → AllByRecursion (λ o. o.
     Pairs Apart (map (ended k e) os)
 pairs_ended k e [] early h = tt
 pairs_ended k e (o ∷ os) early h = (
-  all_map (Apart o) (Apart (ended k e o)) (ended k e) os (λ y apart. apart_ended k e o y early.0 apart) h.0,
+  recursion_from_All (Apart (ended k e o)) (map (ended k e) os)
+      (All-map (Apart (ended k e o)) (ended k e) os
+      (λ i d lt. apart_ended k e o (slice_index_or os i d) early.0 (All-from_recursion (Apart o) os h.0 i d lt))),
   pairs_ended k e os early.1 h.1,
 )
 

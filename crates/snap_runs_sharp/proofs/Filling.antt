@@ -3,6 +3,7 @@
 use Rattle.std.proofs.Common.{◌≡◌, ℕ, ◌+◌, ◌-◌, ◌<◌, ◌≤◌, Bool, true, false, List, length, map, Some, None}
 use Rattle.std.proofs.Common.{slice_index_or, slice_set, refl, sym, ◌∙◌, ap, arith, inl, inr}
 use Rattle.std.proofs.Math.Nat.{eq-or-lt_of_le}
+use Rattle.std.proofs.lemmas.Bool.{true_from_ne_false, false_from_ne_true}
 use Rattle.std.proofs.lemmas.Grind.{get_or-set_at}
 use Rattle.std.proofs.lemmas.List.{get_or-set_other}
 use Rattle.snap_runs.proofs.Common.{IsOneOf, places_to, all_true, first_true}
@@ -27,28 +28,21 @@ filled_more f d j i xs y pos le next is h k low high =
 -- a test that every place passes
 pub all_hold : (f : ℕ → Bool) (n : ℕ) → ((k : ℕ) → IsOneOf n k → f k ≡ true) → all_true (map f (places_to n)) ≡ true
 all_hold f n h =
-    elim (all_true (map f (places_to n))) as (λ b. all_true (map f (places_to n)) ≡ b → b ≡ true) [
-      | true ↦ λ is. refl
-      | false ↦ λ is.
-          let r = some_fails f 1 n is in
-          absurd (let e : true ≡ false = sym (h r.0 (omega arith, omega arith)) ∙ r.3 in cc)
-    ] refl
+    true_from_ne_false (all_true (map f (places_to n))) (λ is.
+    let r = some_fails f 1 n is in let e = h r.0 (omega arith, omega arith) in cc)
 
 -- a test does not hold of all places if one place fails it
 pub one_fails : (f : ℕ → Bool) (n k : ℕ) → IsOneOf n k → f k ≡ false → all_true (map f (places_to n)) ≡ false
 one_fails f n k one h =
-    elim (all_true (map f (places_to n))) as (λ b. all_true (map f (places_to n)) ≡ b → b ≡ false) [
-      | true ↦ λ is. absurd (let e : true ≡ false = sym (all_pass f 1 n is k (omega arith) (omega arith)) ∙ h in cc)
-      | false ↦ λ is. refl
-    ] refl
+    false_from_ne_true (all_true (map f (places_to n))) (λ is.
+    let e = all_pass f 1 n is k (omega arith) (omega arith) in cc)
 
 -- there is no first place where no place passes
 pub none_first : (f : ℕ → Bool) (n : ℕ) → ((k : ℕ) → IsOneOf n k → f k ≡ false) →
     first_true 1 (map f (places_to n)) ≡ None
 none_first f n h =
     elim (first_true 1 (map f (places_to n))) as (λ o. first_true 1 (map f (places_to n)) ≡ o → o ≡ None) [
-      | Some k ↦ λ is.
-          let r = first_found 1 n f k is in
-          absurd (let e : true ≡ false = sym r.2 ∙ h k (omega arith, omega arith) in cc)
+      | Some k ↦ λ is. let r = first_found 1 n f k is in
+          absurd (let e = h k (omega arith, omega arith) in cc)
       | None ↦ λ is. refl
     ] refl

@@ -1,6 +1,6 @@
 -- `fill`: a process that steps alone through a loop over the places 1 to n, and fills a list, as a collect does.
 use Rattle.std.specs.Prelude.{◌≡◌, ℕ, zero, suc, ◌+◌, ◌*◌, ◌-◌, ◌<◌, ◌≤◌, List, length, slice_set, refl}
-use Rattle.std.proofs.Common.{sym, ◌∙◌, ap, arith}
+use Rattle.std.proofs.Common.{◌∙◌, ap, subst, arith}
 use Rattle.std.proofs.lemmas.List.{length-set}
 use Rattle.snap_runs.proofs.Algorithm.{Algorithm}
 use Rattle.snap_runs_sharp.proofs.Alone.{Alone, walk, walks}
@@ -13,27 +13,18 @@ module _ {V P M R X : Type 0} (a : Algorithm V P M) (me lines n : ℕ) (at : R �
     (value : ℕ → X) (other : X)
     (next : (r : R) (j : ℕ) (xs : List X) → 0 < j → j < n → n ≤ length xs →
     (r' : R) × (walk a me lines (at r j xs) ≡ at r' (j + 1) (slice_set xs (j - 1) (value j))))
-    (last : (r : R) (xs : List X) → n ≤ length xs →
-    (r' : R) × (walk a me lines (at r n xs) ≡ beyond r' (slice_set xs (n - 1) (value n)))) where
+    (last : (r : R) (j : ℕ) (xs : List X) → 0 < j → j ≡ n → n ≤ length xs →
+    (r' : R) × (walk a me lines (at r j xs) ≡ beyond r' (slice_set xs (j - 1) (value j)))) where
   -- what so many places leave
   abbrev Leaves : ℕ → R → ℕ → List X → Type 0
   Leaves count r j xs =
       (r' : R) × (ys : List X) × (walk a me (lines * count) (at r j xs) ≡ beyond r' ys) × (length ys ≡ length xs)
       × Filled value other (n + 1) ys
 
-  last_at : (r : R) (j : ℕ) (xs : List X) → j ≡ n → n ≤ length xs →
-      (r' : R) × (walk a me lines (at r j xs) ≡ beyond r' (slice_set xs (j - 1) (value j)))
-  last_at r j xs is size =
-      let end = last r xs size in (
-        end.0,
-        ap (λ i. walk a me lines (at r i xs)) is ∙ end.1
-            ∙ ap (λ i. beyond end.0 (slice_set xs (i - 1) (value i))) (sym is),
-      )
-
   fill_from : (s : ℕ) (r : R) (j : ℕ) (xs : List X) → j + s ≡ n → 0 < j → n ≤ length xs →
       Filled value other j xs → Leaves (suc s) r j xs
   fill_from zero r j xs to pos size filled =
-      let end = last_at r j xs (omega arith) size in
+      let end = last r j xs pos (omega arith) size in
       let one : lines * suc zero ≡ lines = omega arith in (
         end.0,
         slice_set xs (j - 1) (value j),
@@ -58,21 +49,24 @@ module _ {V P M R X : Type 0} (a : Algorithm V P M) (me lines n : ℕ) (at : R �
   -- all the places
   pub fill : (r : R) (j : ℕ) (xs : List X) → j ≡ 1 → 1 ≤ n → n ≤ length xs → Leaves n r j xs
   fill r j xs first some size =
-      let all =
-      fill_from (n - 1) r j xs (omega arith) (omega arith) size (filled_none value other j xs (omega arith)) in
-      let count : lines * n ≡ lines * suc (n - 1) = ap (λ k. lines * k) (omega arith) in
-      (all.0, all.1, ap (λ k. walk a me k (at r j xs)) count ∙ all.2, all.3, all.4)
+      let count : suc (n - 1) ≡ n = omega arith in
+      subst (λ count. Leaves count r j xs) count
+      (fill_from (n - 1) r j xs (omega arith) (omega arith) size (filled_none value other j xs (omega arith)))
 
 -- a loop that changes nothing else
 module _ {V P M X : Type 0} (a : Algorithm V P M) (me lines n : ℕ) (at : ℕ → List X → Alone V P M)
     (beyond : List X → Alone V P M) (value : ℕ → X) (other : X) where
-  pub collect : ((j : ℕ) (xs : List X) → j < n →
-      walk a me lines (at j xs) ≡ at (j + 1) (slice_set xs (j - 1) (value j))) →
-      ((xs : List X) → walk a me lines (at n xs) ≡ beyond (slice_set xs (n - 1) (value n))) →
-      (j : ℕ) (xs : List X) → j ≡ 1 → 1 ≤ n → n ≤ length xs →
+  -- the list is filled with the values
+  abbrev pub Collected : List X → ℕ → Type 0
+  Collected xs j =
       (ys : List X) × (walk a me (lines * n) (at j xs) ≡ beyond ys) × (length ys ≡ length xs)
       × Filled value other (n + 1) ys
+
+  pub collect : ((j : ℕ) (xs : List X) → j < n →
+      walk a me lines (at j xs) ≡ at (j + 1) (slice_set xs (j - 1) (value j))) →
+      ((j : ℕ) (xs : List X) → j ≡ n → walk a me lines (at j xs) ≡ beyond (slice_set xs (j - 1) (value j))) →
+      (j : ℕ) (xs : List X) → j ≡ 1 → 1 ≤ n → n ≤ length xs → Collected xs j
   collect next last j xs first some size =
       let h = fill a me lines n (λ (r : Unit {0}). at) (λ r. beyond) value other
-      (λ r j xs pos lt long. (tt, next j xs lt)) (λ r xs long. (tt, last xs)) tt j xs first some size in
+      (λ r j xs pos lt long. (tt, next j xs lt)) (λ r j xs pos is long. (tt, last j xs is)) tt j xs first some size in
       (h.1, h.2, h.3, h.4)

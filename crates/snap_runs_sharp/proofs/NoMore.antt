@@ -3,10 +3,10 @@
 use Rattle.std.proofs.Common.{◌≡◌, ℕ, zero, suc, ◌+◌, ◌*◌, ◌-◌, ◌<◌, ◌≤◌, List, ◌∷◌, ◌++◌, length, None, slice_index_or}
 use Rattle.std.proofs.Common.{refl, sym, ◌∙◌, ap, subst, arith, inl, inr}
 use Rattle.std.proofs.lemmas.Bool.{cases_eq, cases_lt}
-use Rattle.std.specs.List.{AllByRecursion}
+use Rattle.std.specs.List.{All}
+use Rattle.std.proofs.lemmas.List.Elements.{All-append, All-replicate}
 use Rattle.snap_runs.proofs.Common.{Item, Step, Call, Scan, Run, item}
 use Rattle.snap_runs.specs.Scan.{FinishedScan, double_collects}
-use Rattle.snap_runs.proofs.Embedding.{all_index}
 use Rattle.snap_runs_of_b.specs.Promises as b
 use Rattle.snap_runs_of_b.proofs.Bounds as bounds_of_b
 use Rattle.snap_runs_of_m.specs.Promises as m
@@ -16,7 +16,6 @@ use Rattle.snap_runs_of_u.proofs.Bounds as bounds_of_u
 use Rattle.snap_runs.specs.Promises.{CollectsAtMost}
 use Rattle.snap_runs_sharp.specs.Reached.{Reaches, NoMoreIsReached, ScanAloneMakesOne}
 use Rattle.snap_runs_sharp.specs.Schedules.{steps_of, scan_alone_of_u}
-use Rattle.snap_runs_sharp.proofs.Items.{all_join, all_steps}
 use Rattle.snap_runs_sharp.proofs.ReachedByU.{scan_alone_reaches}
 
 -- a run reaches no more than a bound that it keeps
@@ -42,9 +41,9 @@ IsStep _ = ⊥
 
 -- After a first item there are steps alone, so that its call is the only one.
 module _ (r : Run) (first : Item) (rest : List Item) (items_are : r.items ≡ first ∷ rest)
-    (steps : AllByRecursion IsStep rest) where
+    (steps : All IsStep rest) where
   no_call : (i t : ℕ) → t < length rest → slice_index_or rest t (Step 0) ≡ Call i Scan → ⊥
-  no_call i t short is = subst IsStep is (all_index IsStep rest t (Step 0) steps short)
+  no_call i t short is = subst IsStep is (steps t (Step 0) short)
 
   call_is : (i c : ℕ) → 0 < c → c ≤ length r.items → item r c ≡ Call i Scan → (c ≡ 1) × (first ≡ Call i Scan)
   call_is i zero pos le is = absurd (omega arith)
@@ -88,12 +87,12 @@ module _ (r : Run) (first : Item) (rest : List Item) (items_are : r.items ≡ fi
 tail_of : ℕ → List Item
 tail_of n = (steps_of 1 2 ++ steps_of 1 (4 * n + 2)) ++ steps_of 1 1
 
-tail_steps : (n : ℕ) → AllByRecursion IsStep (tail_of n)
+tail_steps : (n : ℕ) → All IsStep (tail_of n)
 unfolding tail_of
 tail_steps n =
-    all_join IsStep (steps_of 1 2 ++ steps_of 1 (4 * n + 2)) (steps_of 1 1)
-    (all_join IsStep (steps_of 1 2) (steps_of 1 (4 * n + 2)) (all_steps IsStep 1 2 tt)
-    (all_steps IsStep 1 (4 * n + 2) tt)) (all_steps IsStep 1 1 tt)
+    All-append IsStep (steps_of 1 2 ++ steps_of 1 (4 * n + 2)) (steps_of 1 1)
+    (All-append IsStep (steps_of 1 2) (steps_of 1 (4 * n + 2)) (All-replicate IsStep 2 (Step 1) tt)
+    (All-replicate IsStep (4 * n + 2) (Step 1) tt)) (All-replicate IsStep 1 (Step 1) tt)
 
 tail_is : (n : ℕ) → scan_alone_of_u n ≡ Call 1 Scan ∷ tail_of n
 unfolding tail_of

@@ -150,7 +150,6 @@ fits n some most =
     steady (run_of n (schedule_of_b n))
     (turns_schedule n (round_of_b n) (others n) 2 (8 * n + 2) one
     (λ r le. turns_round n (r + 2) (r + 2) (6 * n) (11 * n + 10) (2 * n + 4) one (omega arith, omega arith)))
-    (omega arith)
 
 pub schedule_of_b_reaches_lem : ScheduleOfBReaches
 schedule_of_b_reaches_lem n counts =

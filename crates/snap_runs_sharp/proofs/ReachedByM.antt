@@ -5,6 +5,7 @@ use Rattle.std.proofs.Common.{None, nat_eq, refl, sym, ◌∙◌, ap, subst, ari
 use Rattle.std.proofs.lemmas.Bool.{cases_eq}
 use Rattle.std.proofs.lemmas.Grind.{get_or-set_at}
 use Rattle.std.proofs.lemmas.List.{length-set, length-append, length-replicate, get_or-set_other, get_or-replicate}
+use Rattle.std.proofs.lemmas.List.Elements.{All-append}
 use Rattle.std.proofs.lemmas.Nat.{mul-le}
 use Rattle.snap_words.specs.declared.kind.KindTag.TheVariants as kind
 use Rattle.snap_runs.proofs.Common.{IsOneOf, Word, no_word, Call, Scan, Update}
@@ -26,7 +27,7 @@ use Rattle.snap_runs_sharp.specs.Schedules.{others, steps_of, round_with, before
 use Rattle.snap_runs_sharp.specs.Schedules.{turn_of_m, round_of_m, schedule_of_m}
 use Rattle.snap_runs_sharp.proofs.Alone.{Seat, seated, State, standing, walk, alone_of, run_from}
 use Rattle.snap_runs_sharp.proofs.Answering.{reaches}
-use Rattle.snap_runs_sharp.proofs.Items.{AreTurns, turns_join, turns_round, turns_schedule}
+use Rattle.snap_runs_sharp.proofs.Items.{IsTurn, AreTurns, turns_round, turns_schedule}
 use Rattle.snap_runs_sharp.proofs.Items.{round_length, schedule_length, steady}
 use Rattle.snap_runs_sharp.proofs.Scenes.{Leads, leads_on, schedule_leads, Scene, Beside, beside_fresh, lead_walks}
 use Rattle.snap_runs_sharp.proofs.Scenes.{round_leads, opening_leads}
@@ -255,8 +256,7 @@ fits n w some most most_words =
     turns_round n (r + 2) 1 (4 * n + 2 * w) (10 * n + 6 * w + 14) (3 * n + 4 * w + 8) one (omega arith, omega arith) in
     steady (run_of n w (schedule_of_m n w))
     (turns_schedule n (round_of_m n w) (others n) 3 (7 * n + 6 * w + 4) one
-    (λ r le. turns_join n (turn_of_m n w r) (turn_of_m n w r) (turn r le) (turn r le)))
-    (omega arith)
+    (λ r le. All-append (IsTurn n) (turn_of_m n w r) (turn_of_m n w r) (turn r le) (turn r le)))
 
 pub schedule_of_m_reaches_lem : ScheduleOfMReaches
 schedule_of_m_reaches_lem n w shape =

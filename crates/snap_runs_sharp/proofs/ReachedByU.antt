@@ -157,7 +157,7 @@ fits n some most =
     let turns =
     turns_schedule n (round_of_u n) (others n) 2 (4 * n + 2) one
     (λ r le. turns_round n (r + 2) (r + 2) (2 * n) (4 * n + 9) (2 * n + 4) one (omega arith, omega arith)) in
-    record { steady = steady (run_of n (schedule_of_u n)) turns few; suffice = omega arith }
+    record { steady = steady (run_of n (schedule_of_u n)) turns; suffice = omega arith }
 
 pub schedule_of_u_reaches_lem : ScheduleOfUReaches
 schedule_of_u_reaches_lem n counts =
@@ -175,7 +175,7 @@ fits_alone n some most =
     record {
       steady =
           steady (run_of n (scan_alone_of_u n))
-          (turns_schedule n (λ r. []) 0 2 (4 * n + 2) (omega arith, some) (λ r le. tt)) few;
+          (turns_schedule n (λ r. []) 0 2 (4 * n + 2) (omega arith, some) (λ r le. absurd (omega arith)));
       suffice = omega arith;
     }
 

@@ -66,11 +66,12 @@ shakes : (size n me : ℕ) (d : Mode) (m : Registers) (p : Variables) (c : ℕ) 
 unfolding shaken
 shakes size n me d m p c r j g pos lt le = rw (← drawn_is size me m r j g pos (omega arith), lt_true j n lt) refl
 
-shakes_last : (size n me : ℕ) (d : Mode) (m : Registers) (p : Variables) (c : ℕ) (r : Shaken size) (g : List ℕ) →
-    1 ≤ n → n ≤ size → walk (algorithm n) me 4 (shaking d m p c r n g)
-    ≡ shook d m p c (shaken me m r n g) (slice_set g (n - 1) (handshakes m.words me n))
+shakes_last : (size n me : ℕ) (d : Mode) (m : Registers) (p : Variables) (c : ℕ) (r : Shaken size) (j : ℕ)
+    (g : List ℕ) → 0 < j → j ≡ n → n ≤ size → walk (algorithm n) me 4 (shaking d m p c r j g)
+    ≡ shook d m p c (shaken me m r j g) (slice_set g (j - 1) (handshakes m.words me j))
 unfolding shaken
-shakes_last size n me d m p c r g some le = rw (← drawn_is size me m r n g some le, lt_false n n (omega arith)) refl
+shakes_last size n me d m p c r j g pos is le =
+    rw (← drawn_is size me m r j g pos (omega arith), lt_false j n (omega arith)) refl
 
 -- the handshake with all processes: the bits that their words say are drawn, and put
 handshake : (n me : ℕ) (d : Mode) (m : Registers) (p : Variables) (c : ℕ) → 1 ≤ n → p.j ≡ 1 →
@@ -84,7 +85,7 @@ handshake n me d m p c some first size_a size_g =
     let beyond = λ (r : Shaken size) (g : List ℕ). shook d m p c r g in
     fill (algorithm n) me 4 n at beyond (handshakes m.words me) 0
     (λ r j g pos lt long. (shaken me m r j g, shakes size n me d m p c r j g pos lt size_a))
-    (λ r g long. (shaken me m r n g, shakes_last size n me d m p c r g some size_a)) start p.j p.g first some size_g
+    (λ r j g pos is long. (shaken me m r j g, shakes_last size n me d m p c r j g pos is size_a)) start p.j p.g first some size_g
 
 -- the first collect: the copies are filled with the words
 copies_first : (n me : ℕ) (d : Mode) (m : Registers) (p : Variables) (c : ℕ) → 1 ≤ n → p.j ≡ 1 → n ≤ length p.a →
@@ -94,7 +95,7 @@ copies_first : (n me : ℕ) (d : Mode) (m : Registers) (p : Variables) (c : ℕ)
 copies_first n me d m p c some first size =
     collect (algorithm n) me 2 n (λ j xs. standing d m (record p { j = j; a = xs }) L16 c)
     (λ xs. standing d m (record p { j = 1; a = xs }) L18 c) (word_at m.words) no_word
-    (λ j xs lt. rw (lt_true j n lt) refl) (λ xs. rw (lt_false n n (omega arith)) refl)
+    (λ j xs lt. rw (lt_true j n lt) refl) (λ j xs is. rw (lt_false j n (omega arith)) refl)
     p.j p.a first some size
 
 -- the second collect
@@ -105,7 +106,7 @@ pub second_collect : (n me : ℕ) (d : Mode) (m : Registers) (p : Variables) (c 
 second_collect n me d m p c some first size =
     collect (algorithm n) me 2 n (λ j xs. standing d m (record p { j = j; b = xs }) L18 c)
     (λ xs. standing d m (record p { j = 1; b = xs }) L20 c) (word_at m.words) no_word
-    (λ j xs lt. rw (lt_true j n lt) refl) (λ xs. rw (lt_false n n (omega arith)) refl)
+    (λ j xs lt. rw (lt_true j n lt) refl) (λ j xs is. rw (lt_false j n (omega arith)) refl)
     p.j p.b first some size
 
 -- how the handshake and the first collect leave a process: its copies and its bits are those of the words

@@ -49,7 +49,7 @@ handshake n w me d m p c some first size =
     let rest : Bits × ℕ → ℕ → Bits × ℕ = λ r j. (with_bit r.0 me j (bit m.p j me), bit m.p j me) in
     fill (algorithm n w) me 4 n at beyond (bits_for m.p me) 0
     (λ r j xs pos lt long. (rest r j, rw (lt_true j n lt) refl))
-    (λ r xs long. (rest r n, rw (lt_false n n (omega arith)) refl)) (m.q, p.x) p.j p.g first some size
+    (λ r j xs pos is long. (rest r j, rw (lt_false j n (omega arith)) refl)) (m.q, p.x) p.j p.g first some size
 
 -- the first collect: the copies are filled with the words
 copies_first : (n w me : ℕ) (d : Mode) (m : Registers) (p : Variables) (c : ℕ) → 1 ≤ w → p.k ≡ 1 → w ≤ length p.a →
@@ -59,7 +59,7 @@ copies_first : (n w me : ℕ) (d : Mode) (m : Registers) (p : Variables) (c : �
 copies_first n w me d m p c some first size =
     collect (algorithm n w) me 2 w (λ k xs. standing d m (record p { k = k; a = xs }) L17 c)
     (λ xs. standing d m (record p { k = 1; a = xs }) L19 c) (word_at m.words) no_word
-    (λ k xs lt. rw (lt_true k w lt) refl) (λ xs. rw (lt_false w w (omega arith)) refl)
+    (λ k xs lt. rw (lt_true k w lt) refl) (λ k xs is. rw (lt_false k w (omega arith)) refl)
     p.k p.a first some size
 
 -- the second collect
@@ -70,7 +70,7 @@ copies_second : (n w me : ℕ) (d : Mode) (m : Registers) (p : Variables) (c : �
 copies_second n w me d m p c some first size =
     collect (algorithm n w) me 2 w (λ k xs. standing d m (record p { k = k; b = xs }) L19 c)
     (λ xs. standing d m (record p { k = 1; b = xs }) L21 c) (word_at m.words) no_word
-    (λ k xs lt. rw (lt_true k w lt) refl) (λ xs. rw (lt_false w w (omega arith)) refl)
+    (λ k xs lt. rw (lt_true k w lt) refl) (λ k xs is. rw (lt_false k w (omega arith)) refl)
     p.k p.b first some size
 
 -- the bits of all processes are read late
@@ -83,7 +83,7 @@ late_bits n w me d m p c some first size =
     let beyond = λ (r : ℕ) (xs : List ℕ). standing d m (record p { j = 1; x = r; h = xs }) L24 c in
     fill (algorithm n w) me 3 n at beyond (bits_for m.p me) 0
     (λ r j xs pos lt long. (bit m.p j me, rw (lt_true j n lt) refl))
-    (λ r xs long. (bit m.p n me, rw (lt_false n n (omega arith)) refl)) p.x p.j p.h first some size
+    (λ r j xs pos is long. (bit m.p j me, rw (lt_false j n (omega arith)) refl)) p.x p.j p.h first some size
 
 -- the copies of the words after word k are found to be the same
 rest_from : (n w me : ℕ) (d : Mode) (m : Registers) (s : ℕ) (p : Variables) (c : ℕ) → p.k + s ≡ w →

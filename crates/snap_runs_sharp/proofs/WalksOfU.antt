@@ -24,7 +24,7 @@ pub first_collect : (n me : ℕ) (d : Mode) (m : Words) (p : Variables) (c : ℕ
 first_collect n me d m p c some first size =
     collect (algorithm n) me 2 n (λ j xs. standing d m (record p { j = j; a = xs }) L12 c)
     (λ xs. standing d m (record p { j = 1; a = xs }) L14 c) (word_at m) no_word
-    (λ j xs lt. rw (lt_true j n lt) refl) (λ xs. rw (lt_false n n (omega arith)) refl)
+    (λ j xs lt. rw (lt_true j n lt) refl) (λ j xs is. rw (lt_false j n (omega arith)) refl)
     p.j p.a first some size
 
 -- the second collect
@@ -35,7 +35,7 @@ pub second_collect : (n me : ℕ) (d : Mode) (m : Words) (p : Variables) (c : �
 second_collect n me d m p c some first size =
     collect (algorithm n) me 2 n (λ j xs. standing d m (record p { j = j; b = xs }) L14 c)
     (λ xs. standing d m (record p { j = 1; b = xs }) L16 c) (word_at m) no_word
-    (λ j xs lt. rw (lt_true j n lt) refl) (λ xs. rw (lt_false n n (omega arith)) refl)
+    (λ j xs lt. rw (lt_true j n lt) refl) (λ j xs is. rw (lt_false j n (omega arith)) refl)
     p.j p.b first some size
 
 -- copies of one memory agree

@@ -1,7 +1,8 @@
 -- A schedule whose last item answers a scan: its run reaches as
 -- many double collects of the scan as were counted (`Reaches`).
-use Rattle.std.proofs.Common.{◌≡◌, ℕ, zero, suc, ◌+◌, ◌<◌, Bool, true, false, ◌&&◌, List, [], ◌∷◌, ◌++◌, length, None}
+use Rattle.std.proofs.Common.{◌≡◌, ℕ, zero, suc, ◌+◌, ◌<◌, false, ◌&&◌, List, [], ◌∷◌, ◌++◌, length, None}
 use Rattle.std.proofs.Common.{refl, sym, ◌∙◌, ap, subst, arith}
+use Rattle.std.proofs.Math.Bool.{and-false}
 use Rattle.std.proofs.Math.Seq.{get_or-append_seam}
 use Rattle.std.proofs.lemmas.List.{length-append, get_or_append_left}
 use Rattle.snap_runs.proofs.Common.{IsOneOf, process_at, who, Item, Step, Outcome, Answered, Run, before, item, outcome}
@@ -16,11 +17,6 @@ use Rattle.snap_runs.proofs.Scans as scans
 use Rattle.snap_runs.proofs.Steady.{fits_of}
 use Rattle.snap_runs_sharp.specs.Reached.{Reaches}
 use Rattle.snap_runs_sharp.proofs.Alone.{Alone, State, standing, alone_of, run_from}
-
-no_more : (x y : Bool) → (x && (y && false)) ≡ false
-no_more true true = refl
-no_more true false = refl
-no_more false y = refl
 
 module _ {V P M : Type 0} (a : Algorithm V P M) where
   -- the state after the first of these items
@@ -71,7 +67,7 @@ module _ {V P M : Type 0} (a : Algorithm V P M) where
         let none : ends_double_collect r i (suc t) ≡ false =
         ap (λ (o : Outcome). steps i (item r (suc t))
         && (is_if_all (line_in r.source (process_at (before r (suc t)) i).status) && is_stepped o)) out
-        ∙ no_more (steps i (item r (suc t))) (is_if_all (line_in r.source (process_at (before r (suc t)) i).status)) in
+        ∙ rw (and-false, and-false) refl in
         record {
           fits = fits_of r run.fits;
           process = i;

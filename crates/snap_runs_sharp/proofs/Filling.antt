@@ -1,13 +1,14 @@
--- For runs that reach the bounds: lists that a process which steps alone fills place by place (`Filled`), and tests
--- that all places pass or one fails.
-use Rattle.std.proofs.Common.{◌≡◌, ℕ, ◌+◌, ◌-◌, ◌<◌, ◌≤◌, Bool, true, false, List, length, map, Some, None}
-use Rattle.std.proofs.Common.{slice_index_or, slice_set, refl, sym, ◌∙◌, ap, arith, inl, inr}
+-- For runs that reach the bounds: lists that a process which steps alone fills place by place (`Filled`), tests that
+-- all places pass or one fails, and a row in which one place is counted (`Moved`).
+use Rattle.std.proofs.Common.{◌≡◌, ◌≢◌, ℕ, ◌+◌, ◌-◌, ◌<◌, ◌≤◌, Bool, true, false, List, length, map, Some, None, nat_eq}
+use Rattle.std.proofs.Common.{if◌then◌else◌, slice_index, slice_index_or, slice_set, refl, sym, ◌∙◌, ap, arith, inl, inr}
 use Rattle.std.proofs.Math.Nat.{eq-or-lt_of_le}
-use Rattle.std.proofs.lemmas.Bool.{true_from_ne_false, false_from_ne_true}
+use Rattle.std.proofs.lemmas.Bool.{cases_eq, true_from_ne_false, false_from_ne_true}
 use Rattle.std.proofs.lemmas.Grind.{get_or-set_at}
 use Rattle.std.proofs.lemmas.List.{get_or-set_other}
 use Rattle.snap_runs.proofs.Common.{IsOneOf, places_to, all_true, first_true}
-use Rattle.snap_runs.proofs.Places.{all_pass, some_fails, first_found}
+use Rattle.snap_runs.proofs.Computing.{other_number}
+use Rattle.snap_runs.proofs.Places.{all_pass, some_fails, first_found, for_each, for_each_at}
 
 -- the places below place j, counted from 1, have these values
 abbrev pub Filled : {A : Type 0} → (ℕ → A) → A → ℕ → List A → Type 0
@@ -46,3 +47,39 @@ none_first f n h =
           absurd (let e = h k (omega arith, omega arith) in cc)
       | None ↦ λ is. refl
     ] refl
+
+-- Place i of a row is counted once more, and no other place; none comes to the limit.
+pub record Moved (n i limit : ℕ) (old new : List ℕ) : Type 0 where
+  pub moved : slice_index new (i - 1) ≡ slice_index old (i - 1) + 1
+  pub unmoved : (k : ℕ) → IsOneOf n k → k ≢ i → slice_index new (k - 1) ≡ slice_index old (k - 1)
+  pub few : (k : ℕ) → IsOneOf n k → slice_index new (k - 1) < limit
+  pub stays : first_true 1 (map (λ k. nat_eq (slice_index new (k - 1)) limit) (places_to n)) ≡ None
+
+-- where only place i passes the test by which a row is counted
+pub one_moves : (n i limit : ℕ) (moves : ℕ → Bool) (old : List ℕ) → IsOneOf n i → moves i ≡ true →
+    ((k : ℕ) → IsOneOf n k → k ≢ i → moves k ≡ false) →
+    ((k : ℕ) → IsOneOf n k → slice_index old (k - 1) < limit) → slice_index old (i - 1) + 1 < limit →
+    Moved n i limit old
+    (for_each n (λ k. if moves k then slice_index old (k - 1) + 1 else slice_index old (k - 1)) old)
+one_moves n i limit moves old one moves_i stand few less =
+    let count = λ (k : ℕ). if moves k then slice_index old (k - 1) + 1 else slice_index old (k - 1) in
+    let new = for_each n count old in
+    let moved : slice_index new (i - 1) ≡ slice_index old (i - 1) + 1 =
+    for_each_at n count old i one
+    ∙ ap (λ b. if b then slice_index old (i - 1) + 1 else slice_index old (i - 1)) moves_i in
+    let unmoved : (k : ℕ) → IsOneOf n k → k ≢ i → slice_index new (k - 1) ≡ slice_index old (k - 1) =
+    λ k at other. for_each_at n count old k at
+    ∙ ap (λ b. if b then slice_index old (k - 1) + 1 else slice_index old (k - 1)) (stand k at other) in
+    let below : (k : ℕ) → IsOneOf n k → slice_index new (k - 1) < limit =
+    λ k at. elim (cases_eq k i) [
+      | inl is ↦ omega (arith, ap (λ y. slice_index new (y - 1)) is, moved)
+      | inr other ↦ omega (arith, unmoved k at other, few k at)
+    ] in
+    record {
+      moved = moved;
+      unmoved = unmoved;
+      few = below;
+      stays = none_first (λ k. nat_eq (slice_index new (k - 1)) limit) n (λ k at.
+          let less : slice_index new (k - 1) < limit = below k at in
+          other_number (slice_index new (k - 1)) limit (λ is. absurd (omega arith)));
+    }

@@ -3,6 +3,7 @@ pub mod Alone
 pub mod Items
 pub mod Scenes
 pub mod Answering
+pub mod Rounds
 pub mod Filling
 pub mod Loops
 pub mod WalksOfU

@@ -1,64 +1,56 @@
 -- The schedule of B by which a scan makes n double collects: round after
 -- round one process more has moved, and then the scan passes its test.
-use Rattle.std.proofs.Common.{◌≡◌, ◌≢◌, ℕ, suc, ◌+◌, ◌*◌, ◌-◌, ◌<◌, ◌≤◌, max, ◌∷◌, length, None, replicate, slice_set}
-use Rattle.std.proofs.Common.{refl, sym, ◌∙◌, ap, subst, arith}
+use Rattle.std.proofs.Common.{◌≡◌, ◌≢◌, ℕ, suc, ◌+◌, ◌*◌, ◌-◌, ◌<◌, ◌≤◌, max, length, None, slice_set}
+use Rattle.std.proofs.Common.{refl, ◌∙◌, ap, subst, arith}
 use Rattle.std.proofs.lemmas.Grind.{get_or-set_at}
 use Rattle.std.proofs.lemmas.List.{length-set, length-replicate, get_or-set_other, get_or-replicate}
 use Rattle.std.proofs.lemmas.Nat.{mul-le}
 use Rattle.snap_words.specs.declared.kind.KindTag.TheVariants as kind
-use Rattle.snap_runs.proofs.Common.{IsOneOf, Word, no_word, Call, Scan, Update}
+use Rattle.snap_runs.proofs.Common.{IsOneOf, Word, no_word, Update}
 use Rattle.snap_words.specs.Shape.{max_count}
 use Rattle.snap_semantics.specs.Table.{call_skip}
-use Rattle.snap_runs.proofs.Algorithm.{Scanning, first_state}
+use Rattle.snap_runs.proofs.Algorithm.{Scanning}
 use Rattle.snap_runs.proofs.Computing.{lt_true, le_true, same_number}
 use Rattle.snap_runs.proofs.Held.{word_at}
 use Rattle.snap_runs.proofs.Places.{for_each, for_each_at}
 use Rattle.snap_runs.proofs.Steady.{Steady}
 use Rattle.snap_runs_of_b.specs.Promises.{square, run_of}
-use Rattle.snap_runs_of_b.proofs.Algorithm.{Registers, Variables, L10, L12, L18, L26, first_word, first_variables}
-use Rattle.snap_runs_of_b.proofs.Algorithm.{first_registers, moved_at, lines, algorithm}
+use Rattle.snap_runs_of_b.proofs.Algorithm.{Registers, Variables, L12, L26, first_word, first_variables}
+use Rattle.snap_runs_of_b.proofs.Algorithm.{first_registers, limit, moved_at, lines, algorithm}
 use Rattle.snap_runs_of_b.proofs.Flows.{listed}
 use Rattle.snap_runs_of_b.proofs.Runs.{execution}
-use Rattle.snap_runs_sharp.specs.Reached.{IsReachedByB, ScheduleOfBReaches}
-use Rattle.snap_runs_sharp.specs.Schedules.{others, steps_of, before_answer, round_of_b, schedule_of_b}
-use Rattle.snap_runs_sharp.proofs.Alone.{State, standing, walk, alone_of, run_from}
-use Rattle.snap_runs_sharp.proofs.Answering.{reaches}
+use Rattle.snap_runs_sharp.specs.Reached.{Reaches, IsReachedByB, ScheduleOfBReaches}
+use Rattle.snap_runs_sharp.specs.Schedules.{others, round_of_b, schedule_of_b}
 use Rattle.snap_runs_sharp.proofs.Items.{turns_round, turns_schedule, round_length, schedule_length, steady}
-use Rattle.snap_runs_sharp.proofs.Scenes.{Leads, schedule_leads, first_seat, Scene, beside_fresh, lead_walks}
-use Rattle.snap_runs_sharp.proofs.Scenes.{round_leads, opening_leads}
-use Rattle.snap_runs_sharp.proofs.WalksOfB.{first_collect, clean, whole_update, fails}
+use Rattle.snap_runs_sharp.proofs.Rounds.{Turned, rounds_reach}
+use Rattle.snap_runs_sharp.proofs.Scenes.{round_leads}
+use Rattle.snap_runs_sharp.proofs.WalksOfB.{Sized, first_collect, clean, whole_update, fails}
 
 -- an update of a process's own word is admitted
 admitted : (n i value : ℕ) → IsOneOf n i → call_skip kind.Bits (square n) i (Update i value) ≡ None
 admitted n i value one = rw (lt_true 0 i one.0, le_true i n one.1, same_number i) refl
 
--- After r rounds the scan is about to begin a double collect; the processes from r + 2 on have not moved.
-record Round (n r : ℕ) (x : State (algorithm n)) : Type 0 where
-  memory : Registers
-  variables : Variables
-  scene : Scene (algorithm n) (suc r) (standing Scanning memory variables L12 r) x
-  first : variables.j ≡ 1
-  size_a : n ≤ length variables.a
-  size_b : n ≤ length variables.b
-  size_g : n ≤ length variables.g
-  words : length memory.words ≡ n
-  few : (k : ℕ) → IsOneOf n k → moved_at variables k ≤ 1
-  none : (k : ℕ) → IsOneOf n k → suc r < k → (moved_at variables k ≡ 0) × ((word_at memory.words k).toggle ≡ 0)
+-- What is kept round after round: the processes from r + 2 on have not moved after r rounds.
+record Kept (n r : ℕ) (m : Registers) (p : Variables) : Type 0 where
+  first : p.j ≡ 1
+  sized : Sized n p
+  words : length m.words ≡ n
+  few : (k : ℕ) → IsOneOf n k → moved_at p k < limit
+  none : (k : ℕ) → IsOneOf n k → suc r < k → (moved_at p k ≡ 0) × ((word_at m.words k).toggle ≡ 0)
 
-one_round : (n r : ℕ) → suc r ≤ others n → Leads (algorithm n) (Round n r) (round_of_b n r) (Round n (suc r))
-one_round n r le time x h =
-    let a = algorithm n in
-    let one : IsOneOf n 1 = (omega arith, omega arith) in
+first_sized : (n : ℕ) → Sized n (first_variables n)
+first_sized n = omega (arith, length-replicate (max n n) (first_word n), length-replicate {A = ℕ} (max n n) 0)
+
+one_round : (n r : ℕ) → suc r ≤ others n → (m : Registers) (p : Variables) → Kept n r m p →
+    Turned (algorithm n) L12 (λ c. c) (Kept n) r m p (round_of_b n r)
+one_round n r le m p h =
     let some : 1 ≤ n = omega arith in
     let i = r + 2 in
     let at : IsOneOf n i = (omega arith, omega arith) in
-    let m = h.memory in
-    let collect = first_collect n 1 Scanning m h.variables r some h.first h.size_a h.size_g in
+    let collect = first_collect n 1 Scanning m p r some h.first h.sized in
     let m1 : Registers = record m { q = collect.q } in
-    let p : Variables = record h.variables { j = 1; a = collect.a; g = collect.g; marks = collect.marks } in
-    let rows : length (first_variables n).g ≡ max n n = length-replicate (max n n) 0 in
-    let copies : length (replicate (max n n) (first_word n)) ≡ max n n = length-replicate (max n n) (first_word n) in
-    let update = whole_update n i i i m1 (first_variables n) 0 some (omega arith) (omega arith) (omega arith) in
+    let p1 : Variables = record p { j = 1; a = collect.a; g = collect.g; marks = collect.marks } in
+    let update = whole_update n i i i m1 (first_variables n) 0 some (first_sized n) in
     let ws = slice_set m.words (i - 1) update.0 in
     let m2 : Registers = record { words = ws; q = update.1 } in
     let none_i = h.none i at (omega arith) in
@@ -67,76 +59,42 @@ one_round n r le time x h =
     let toggle : (word_at ws i).toggle ≡ 1 = ap (λ (w : Word). w.toggle) written ∙ update.4 in
     let kept : (k : ℕ) → IsOneOf n k → k ≢ i → word_at ws k ≡ word_at m.words k =
     λ k k_one other. get_or-set_other m.words (i - 1) (k - 1) update.0 no_word (λ same. other (omega arith)) in
-    let failed = fails n i m.words m2 p r some refl h.size_b collect.copies collect.bits at
-    (λ same. absurd (omega arith)) kept h.few none_i.0 in
-    let q = failed.0 in
-    let before = standing Scanning m h.variables L12 r in
-    let between = standing Scanning m1 p L18 r in
-    let after = standing Scanning m2 q L12 (suc r) in
-    let leads = round_leads a one i i i (6 * n) (11 * n + 10) (2 * n + 4) before between after (first_seat a) update.2
-    m2 at (omega arith) (omega arith) refl (admitted n i i at) collect.walked update.3 failed.1 in
-    let scene = (leads time x (beside_fresh a (suc r) i before x at (omega arith) h.scene)).scene in
+    let failed = fails n i m.words m2 p1 r some refl (omega (arith, h.sized, collect.size_a, collect.size_g))
+    collect.copies collect.bits at (λ same. absurd (omega arith)) kept h.few none_i.0 in
     record {
       memory = m2;
-      variables = q;
-      scene = subst (λ u. Scene a u after (run_from a time x (round_of_b n r))) (omega arith) scene;
-      first = failed.2;
-      size_a = omega (arith, failed.3, collect.size_a, h.size_a);
-      size_b = omega (arith, failed.4, h.size_b);
-      size_g = omega (arith, failed.5, collect.size_g, h.size_g);
-      words = length-set m.words (i - 1) update.0 ∙ h.words;
-      few = failed.6;
-      none = λ k k_one more.
-          let other : k ≢ i = λ same. absurd (omega arith) in
-          let old = h.none k k_one (omega arith) in
-          (failed.7 k k_one other ∙ old.0, ap (λ (w : Word). w.toggle) (kept k k_one other) ∙ old.1);
+      variables = failed.0;
+      seat = update.2;
+      leads = round_leads (algorithm n) (omega arith, some) (suc (suc r)) i i (6 * n) (11 * n + 10) (2 * n + 4)
+          at (omega arith) (omega arith) refl (admitted n i i at) collect.walked update.3 failed.1;
+      keeps = record {
+        first = failed.2;
+        sized = failed.3;
+        words = length-set m.words (i - 1) update.0 ∙ h.words;
+        few = failed.4.few;
+        none = λ k k_one more.
+            let other : k ≢ i = λ same. absurd (omega arith) in
+            let old = h.none k k_one (omega arith) in
+            (failed.4.unmoved k k_one other ∙ old.0, ap (λ (w : Word). w.toggle) (kept k k_one other) ∙ old.1);
+      };
     }
 
 -- after the call and the first two lines
-opening : (n : ℕ) → 1 ≤ n →
-    Leads (algorithm n) (λ x. x ≡ first_state (algorithm n)) (Call 1 Scan ∷ steps_of 1 2) (Round n 0)
-opening n some time x is =
-    let a = algorithm n in
-    let m = first_registers n in
-    let p0 = first_variables n in
-    let p : Variables = record p0 { moved = for_each n (λ k. 0) p0.moved; j = 1 } in
-    let ready = standing Scanning m p L12 0 in
-    let walked : walk a 1 2 (standing Scanning m p0 L10 0) ≡ ready = refl in
-    let copies = length-replicate (max n n) (first_word n) in
-    let rows : length p.g ≡ max n n = length-replicate (max n n) 0 in
-    let zeros : (k : ℕ) → IsOneOf n k → moved_at p k ≡ 0 = λ k at. for_each_at n (λ k. 0) p0.moved k at in
+abbrev opened : ℕ → Variables
+opened n = record (first_variables n) { moved = for_each n (λ k. 0) (first_variables n).moved; j = 1 }
+
+opening : (n : ℕ) → 1 ≤ n → Kept n 0 (first_registers n) (opened n)
+opening n some =
+    let zeros : (k : ℕ) → IsOneOf n k → moved_at (opened n) k ≡ 0 =
+    λ k at. for_each_at n (λ k. 0) (first_variables n).moved k at in
     record {
-      memory = m;
-      variables = p;
-      scene = opening_leads a (omega arith, omega arith) 2 ready walked time x is;
       first = refl;
-      size_a = omega arith;
-      size_b = omega arith;
-      size_g = omega arith;
+      sized = omega (arith, first_sized n);
       words = length-replicate n (first_word n);
       few = λ k at. omega (arith, zeros k at);
-      none =
-          λ k at more.
+      none = λ k at more.
           (zeros k at, ap (λ (w : Word). w.toggle) (get_or-replicate n (k - 1) (first_word n) no_word (omega arith)));
     }
-
--- process 1 is about to answer, after n double collects
-record Ready (n : ℕ) (x : State (algorithm n)) : Type 0 where
-  memory : Registers
-  variables : Variables
-  lead : alone_of (algorithm n) x 1 ≡ standing Scanning memory variables L26 n
-
--- the last double collect passes
-closing : (n r : ℕ) → n ≡ suc r → Leads (algorithm n) (Round n r) (steps_of 1 (8 * n + 2)) (Ready n)
-closing n r last time x h =
-    let a = algorithm n in
-    let one : IsOneOf n 1 = (omega arith, omega arith) in
-    let end = clean n 1 Scanning h.memory h.variables r (omega arith) h.first h.size_a h.size_b h.size_g in
-    let m1 : Registers = record h.memory { q = end.0 } in
-    let stands = standing Scanning h.memory h.variables L12 r in
-    let ready = standing Scanning m1 end.1 L26 (suc r) in
-    let scene = lead_walks a one (suc r) (8 * n + 2) stands ready (omega arith) end.2 time x h.scene in
-    record { memory = m1; variables = end.1; lead = scene.lead ∙ ap (standing Scanning m1 end.1 L26) (sym last) }
 
 -- the schedule fits
 fits : (n : ℕ) → 1 ≤ n → n ≤ max_count → Steady (run_of n (schedule_of_b n))
@@ -153,13 +111,13 @@ fits n some most =
 
 pub schedule_of_b_reaches_lem : ScheduleOfBReaches
 schedule_of_b_reaches_lem n counts =
-    let a = algorithm n in
-    let one : IsOneOf n 1 = (omega arith, omega arith) in
-    let ready = schedule_leads a (Round n) (Ready n) (round_of_b n) (others n) 2 (8 * n + 2) (opening n (omega arith))
-    (λ r le. one_round n r le) (closing n (others n) (omega arith)) in
-    reaches a lines (listed n) (execution n (schedule_of_b n) (fits n (omega arith) (omega arith)))
-    (before_answer (round_of_b n) (others n) 2 (8 * n + 2)) 1 Scanning L26 ready.memory ready.variables n
-    ready.variables.s refl one ready.lead refl
+    let all : suc (others n) ≡ n = omega arith in
+    subst (λ bound. Reaches bound (run_of n (schedule_of_b n))) all
+    (rounds_reach (algorithm n) L12 (λ c. c) (Kept n) lines (listed n) L26 2 (8 * n + 2) (others n) (round_of_b n)
+    (opened n) (omega arith) refl (opening n (omega arith)) (one_round n)
+    (λ m p h. let end = clean n 1 Scanning m p (others n) (omega arith) h.first h.sized in
+    (record m { q = end.0 }, end.1, end.2))
+    (λ m p. refl) (execution n (schedule_of_b n) (fits n (omega arith) (omega arith))) refl)
 
 pub is_reached_by_b_lem : IsReachedByB
 is_reached_by_b_lem n counts = (schedule_of_b n, schedule_of_b_reaches_lem n counts)

@@ -64,7 +64,7 @@ module _ {V P M : Type 0} (a : Algorithm V P M) where
     pub seat : seat_of (typed_at a x i) ≡ q
 
   pub beside_fresh : (r i : ℕ) (y : Alone V P M) (x : State a) → IsOneOf a.shape.n i → i ≡ suc r →
-      Scene r y x → Beside i i y first_seat x
+      Scene r y x → Beside (suc r) i y first_seat x
   beside_fresh r i y x one next h =
       record {
         scene = record { count = h.count; lead = h.lead; fresh = λ k at more. h.fresh k at (omega arith) };
@@ -144,13 +144,13 @@ module _ {V P M : Type 0} (a : Algorithm V P M) where
         }
 
     -- a round: process 1 takes steps, process i makes an update, and process 1 takes steps again
-    pub round_leads : (r i word first update second : ℕ) (before between after : Alone V P M)
-        (q q' : Seat V P) (m' : M) → IsOneOf a.shape.n i → 1 < i → i ≤ r → q.control ≡ Idle →
+    pub round_leads : (r i word first update second : ℕ) {before between after : Alone V P M}
+        {q q' : Seat V P} {m' : M} → IsOneOf a.shape.n i → 1 < i → i ≤ r → q.control ≡ Idle →
         call_skip a.source.kind a.shape i (Update word i) ≡ None → walk a 1 first before ≡ between →
         walk a i update (after_call a (Update word i) (placed between.memory q)) ≡ placed m' q' →
         walk a 1 second (placed m' between.seat) ≡ after →
         Leads (Beside r i before q) (round_with i word first update second) (Beside r i after q')
-    round_leads r i word first update second before between after q q' m' at other le idle admit
+    round_leads r i word first update second {before} {between} {after} {q} {q'} {m'} at other le idle admit
         one_walks other_walks one_goes_on =
         let beyond : Alone V P M = placed m' between.seat in
         leads_on (Beside r i before q) (Beside r i between q) (Beside r i after q') (steps_of 1 first)

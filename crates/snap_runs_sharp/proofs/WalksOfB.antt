@@ -1,24 +1,30 @@
 -- Processes of B that step alone: the handshakes and the collects of a scan, its tests, and a whole update.
 use Rattle.std.proofs.Common.{◌≡◌, ◌≢◌, ℕ, zero, suc, ◌+◌, ◌*◌, ◌-◌, ◌<◌, ◌≤◌, Bool, true, false, not, ◌&&◌, List}
-use Rattle.std.proofs.Common.{length, map, take, None, nat_eq, if◌then◌else◌, slice_set, refl, ◌∙◌, ap, arith, inl, inr}
-use Rattle.std.proofs.lemmas.Bool.{cases_eq}
+use Rattle.std.proofs.Common.{length, map, take, nat_eq, slice_set, refl, ◌∙◌, ap, arith}
+use Rattle.std.proofs.Math.Bool.{and-false}
 use Rattle.std.proofs.lemmas.Grind.{get_or-set_at}
 use Rattle.std.proofs.lemmas.List.{length-set}
-use Rattle.snap_runs.proofs.Common.{IsOneOf, Word, no_word, places_to, first_true}
+use Rattle.snap_runs.proofs.Common.{IsOneOf, Word, no_word}
 use Rattle.snap_semantics.specs.Table.{with_bit_at}
 use Rattle.snap_runs.proofs.Algorithm.{Mode, Scanning, Embedded, Updating}
 use Rattle.snap_runs.proofs.Computing.{lt_true, lt_false, other_number, same_number}
 use Rattle.snap_runs.proofs.Held.{word_at, seq_at}
-use Rattle.snap_runs.proofs.Places.{for_each, for_each_at}
+use Rattle.snap_runs.proofs.Places.{for_each}
 use Rattle.snap_runs_of_b.proofs.Algorithm.{Words, Registers, Variables, ProgramCounter, L12, L16, L18, L20, L26, L40}
 use Rattle.snap_runs_of_b.proofs.Algorithm.{L41, L44, place, handshake_at, bit_for, answer, flipped, agree, moved_at}
-use Rattle.snap_runs_of_b.proofs.Algorithm.{counted, at_limit, word_put, algorithm}
+use Rattle.snap_runs_of_b.proofs.Algorithm.{limit, counted, word_put, algorithm}
 use Rattle.snap_runs_sharp.proofs.Alone.{Seat, Alone, placed, standing, idling, walk, walks}
-use Rattle.snap_runs_sharp.proofs.Filling.{Filled, all_hold, one_fails, none_first}
-use Rattle.snap_runs_sharp.proofs.Loops.{fill, collect}
+use Rattle.snap_runs_sharp.proofs.Filling.{Filled, all_hold, one_fails, Moved, one_moves}
+use Rattle.snap_runs_sharp.proofs.Loops.{fill, Collected, collect}
 
 abbrev pub Standing : Type 0
 Standing = Alone Variables ProgramCounter Registers
+
+-- the copies and the bits of a process are long enough
+pub record Sized (n : ℕ) (p : Variables) : Type 0 where
+  pub a : n ≤ length p.a
+  pub b : n ≤ length p.b
+  pub g : n ≤ length p.g
 
 -- what the words say to a process
 abbrev pub handshakes : Words → ℕ → ℕ → ℕ
@@ -74,43 +80,40 @@ shakes_last size n me d m p c r j g pos is le =
     rw (← drawn_is size me m r j g pos (omega arith), lt_false j n (omega arith)) refl
 
 -- the handshake with all processes: the bits that their words say are drawn, and put
-handshake : (n me : ℕ) (d : Mode) (m : Registers) (p : Variables) (c : ℕ) → 1 ≤ n → p.j ≡ 1 →
-    n ≤ length p.a → n ≤ length p.g → (r : Shaken (length p.a)) × (g : List ℕ)
+handshake : (n me : ℕ) (d : Mode) (m : Registers) (p : Variables) (c : ℕ) → 1 ≤ n → p.j ≡ 1 → Sized n p →
+    (r : Shaken (length p.a)) × (g : List ℕ)
     × (walk (algorithm n) me (4 * n) (standing d m p L12 c) ≡ shook d m p c r g)
     × (length g ≡ length p.g) × Filled (handshakes m.words me) 0 (n + 1) g
-handshake n me d m p c some first size_a size_g =
+handshake n me d m p c some first sized =
     let size = length p.a in
     let start : Shaken size = record { q = m.q; a = p.a; marks = p.marks; size_a = refl } in
     let at = λ (r : Shaken size) (j : ℕ) (g : List ℕ). shaking d m p c r j g in
     let beyond = λ (r : Shaken size) (g : List ℕ). shook d m p c r g in
     fill (algorithm n) me 4 n at beyond (handshakes m.words me) 0
-    (λ r j g pos lt long. (shaken me m r j g, shakes size n me d m p c r j g pos lt size_a))
-    (λ r j g pos is long. (shaken me m r j g, shakes_last size n me d m p c r j g pos is size_a)) start p.j p.g first some size_g
+    (λ r j g pos lt long. (shaken me m r j g, shakes size n me d m p c r j g pos lt sized.a))
+    (λ r j g pos is long. (shaken me m r j g, shakes_last size n me d m p c r j g pos is sized.a)) start p.j p.g
+    first some sized.g
 
 -- the first collect: the copies are filled with the words
 copies_first : (n me : ℕ) (d : Mode) (m : Registers) (p : Variables) (c : ℕ) → 1 ≤ n → p.j ≡ 1 → n ≤ length p.a →
-    (a : Words)
-    × (walk (algorithm n) me (2 * n) (standing d m p L16 c) ≡ standing d m (record p { j = 1; a = a }) L18 c)
-    × (length a ≡ length p.a) × Filled (word_at m.words) no_word (n + 1) a
+    Collected (algorithm n) me 2 n (λ j xs. standing d m (record p { j = j; a = xs }) L16 c)
+    (λ xs. standing d m (record p { j = 1; a = xs }) L18 c) (word_at m.words) no_word p.a p.j
 copies_first n me d m p c some first size =
     collect (algorithm n) me 2 n (λ j xs. standing d m (record p { j = j; a = xs }) L16 c)
     (λ xs. standing d m (record p { j = 1; a = xs }) L18 c) (word_at m.words) no_word
-    (λ j xs lt. rw (lt_true j n lt) refl) (λ j xs is. rw (lt_false j n (omega arith)) refl)
-    p.j p.a first some size
+    (λ j xs lt. rw (lt_true j n lt) refl) (λ j xs is. rw (lt_false j n (omega arith)) refl) p.j p.a first some size
 
 -- the second collect
-pub second_collect : (n me : ℕ) (d : Mode) (m : Registers) (p : Variables) (c : ℕ) → 1 ≤ n → p.j ≡ 1 → n ≤ length p.b →
-    (b : Words)
-    × (walk (algorithm n) me (2 * n) (standing d m p L18 c) ≡ standing d m (record p { j = 1; b = b }) L20 c)
-    × (length b ≡ length p.b) × Filled (word_at m.words) no_word (n + 1) b
-second_collect n me d m p c some first size =
+pub second_collect : (n me : ℕ) (d : Mode) (m : Registers) (p : Variables) (c : ℕ) → 1 ≤ n → p.j ≡ 1 → Sized n p →
+    Collected (algorithm n) me 2 n (λ j xs. standing d m (record p { j = j; b = xs }) L18 c)
+    (λ xs. standing d m (record p { j = 1; b = xs }) L20 c) (word_at m.words) no_word p.b p.j
+second_collect n me d m p c some first sized =
     collect (algorithm n) me 2 n (λ j xs. standing d m (record p { j = j; b = xs }) L18 c)
     (λ xs. standing d m (record p { j = 1; b = xs }) L20 c) (word_at m.words) no_word
-    (λ j xs lt. rw (lt_true j n lt) refl) (λ j xs is. rw (lt_false j n (omega arith)) refl)
-    p.j p.b first some size
+    (λ j xs lt. rw (lt_true j n lt) refl) (λ j xs is. rw (lt_false j n (omega arith)) refl) p.j p.b first some sized.b
 
 -- how the handshake and the first collect leave a process: its copies and its bits are those of the words
-pub record Collected (n me : ℕ) (d : Mode) (m : Registers) (p : Variables) (c : ℕ) : Type 0 where
+pub record Drawn (n me : ℕ) (d : Mode) (m : Registers) (p : Variables) (c : ℕ) : Type 0 where
   pub q : List (List ℕ)
   pub a : Words
   pub g : List ℕ
@@ -122,22 +125,21 @@ pub record Collected (n me : ℕ) (d : Mode) (m : Registers) (p : Variables) (c 
   pub copies : Filled (word_at m.words) no_word (n + 1) a
   pub bits : Filled (handshakes m.words me) 0 (n + 1) g
 
-pub first_collect : (n me : ℕ) (d : Mode) (m : Registers) (p : Variables) (c : ℕ) → 1 ≤ n → p.j ≡ 1 → n ≤ length p.a →
-    n ≤ length p.g → Collected n me d m p c
-first_collect n me d m p c some first size_a size_g =
-    let bits = handshake n me d m p c some first size_a size_g in
+pub first_collect : (n me : ℕ) (d : Mode) (m : Registers) (p : Variables) (c : ℕ) → 1 ≤ n → p.j ≡ 1 → Sized n p →
+    Drawn n me d m p c
+first_collect n me d m p c some first sized =
+    let bits = handshake n me d m p c some first sized in
     let r = bits.0 in
     let m1 : Registers = record m { q = r.q } in
     let p1 : Variables = record p { j = 1; a = r.a; g = bits.1; marks = r.marks } in
-    let long : length r.a ≡ length p.a = r.size_a in
-    let copies = copies_first n me d m1 p1 c some refl (omega arith) in
+    let copies = copies_first n me d m1 p1 c some refl (omega (arith, sized, r.size_a)) in
     record {
       q = r.q;
       a = copies.0;
       g = bits.1;
       marks = r.marks;
       walked = walks (algorithm n) me (4 * n) (2 * n) (6 * n) (standing d m p L12 c) bits.2 copies.1 (omega arith);
-      size_a = copies.2 ∙ long;
+      size_a = copies.2 ∙ r.size_a;
       size_g = bits.3;
       copies = copies.3;
       bits = bits.4;
@@ -147,42 +149,29 @@ first_collect n me d m p c some first size_a size_g =
 abbrev pub alike : ℕ → Word → Word → ℕ → Bool
 alike me x y bit = nat_eq (handshake_at x me) bit && (nat_eq (handshake_at y me) bit && nat_eq x.toggle y.toggle)
 
-pub alike_same : (me : ℕ) (x : Word) → alike me x x (handshake_at x me) ≡ true
-alike_same me x =
-    ap (λ b. b && (b && nat_eq x.toggle x.toggle)) (same_number (handshake_at x me))
-    ∙ same_number x.toggle
+alike_same : (me : ℕ) (x : Word) → alike me x x (handshake_at x me) ≡ true
+alike_same me x = rw (same_number (handshake_at x me), same_number x.toggle) refl
 
 -- words whose toggles differ are not alike
-pub alike_not : (me : ℕ) (x y : Word) (bit : ℕ) → x.toggle ≢ y.toggle → alike me x y bit ≡ false
-alike_not me x y bit differ =
-    ap (λ b. nat_eq (handshake_at x me) bit && (nat_eq (handshake_at y me) bit && b))
-    (other_number x.toggle y.toggle differ)
-    ∙ neither (nat_eq (handshake_at x me) bit) (nat_eq (handshake_at y me) bit)
-  where
-    neither : (u v : Bool) → (u && (v && false)) ≡ false
-    neither true true = refl
-    neither true false = refl
-    neither false v = refl
+alike_not : (me : ℕ) (x y : Word) (bit : ℕ) → x.toggle ≢ y.toggle → alike me x y bit ≡ false
+alike_not me x y bit differ = rw (other_number x.toggle y.toggle differ, and-false, and-false) refl
 
 -- how the copies and the bit of word k compare, by the words that they are of
-pub compares : (n me k : ℕ) (m m' : Words) (p : Variables) → IsOneOf n k → Filled (word_at m) no_word (n + 1) p.a →
+compares : (n me k : ℕ) (m m' : Words) (p : Variables) → IsOneOf n k → Filled (word_at m) no_word (n + 1) p.a →
     Filled (word_at m') no_word (n + 1) p.b →
     Filled (handshakes m me) 0 (n + 1) p.g → agree me p k ≡ alike me (word_at m k) (word_at m' k) (handshakes m me k)
 compares n me k m m' p one a b g =
-    ap (λ (x : Word). alike me x (word_at p.b k) (place p.g k)) (a k (omega arith) (omega arith))
-    ∙ ap (λ (x : Word). alike me (word_at m k) x (place p.g k)) (b k (omega arith) (omega arith))
-    ∙ ap (alike me (word_at m k) (word_at m' k)) (g k (omega arith) (omega arith))
+    cc (a k (omega arith) (omega arith), b k (omega arith) (omega arith), g k (omega arith) (omega arith))
 
 -- a double collect alone passes its test, and its view is made
-pub clean : (n me : ℕ) (d : Mode) (m : Registers) (p : Variables) (c : ℕ) → 1 ≤ n → p.j ≡ 1 → n ≤ length p.a →
-    n ≤ length p.b → n ≤ length p.g →
+pub clean : (n me : ℕ) (d : Mode) (m : Registers) (p : Variables) (c : ℕ) → 1 ≤ n → p.j ≡ 1 → Sized n p →
     (q : List (List ℕ)) × (v : Variables) × (walk (algorithm n) me (8 * n + 2) (standing d m p L12 c) ≡ standing d
     (record m { q = q }) v L26 (suc c)) × (v.t ≡ p.t)
-clean n me d m p c some first size_a size_b size_g =
-    let one = first_collect n me d m p c some first size_a size_g in
+clean n me d m p c some first sized =
+    let one = first_collect n me d m p c some first sized in
     let m1 : Registers = record m { q = one.q } in
     let p1 : Variables = record p { j = 1; a = one.a; g = one.g; marks = one.marks } in
-    let two = second_collect n me d m1 p1 c some refl size_b in
+    let two = second_collect n me d m1 p1 c some refl (omega (arith, sized, one.size_a, one.size_g)) in
     let p2 : Variables = record p1 { b = two.0 } in
     let v : Variables = record p2 { s = map (λ (r : Word). r.datum) (take n two.0) } in
     let passes = all_hold (agree me p2) n (λ k at. compares n me k m.words m.words p2 at one.copies two.3 one.bits
@@ -211,19 +200,19 @@ answers_from n me d m (suc s) p c last pos =
     )
 
 -- a whole update alone writes a word with the other toggle
-pub whole_update : (n me word value : ℕ) (m : Registers) (p : Variables) (c : ℕ) → 1 ≤ n → n ≤ length p.a →
-    n ≤ length p.b → n ≤ length p.g → (x : Word) × (q : List (List ℕ)) × (z : Seat Variables ProgramCounter)
+pub whole_update : (n me word value : ℕ) (m : Registers) (p : Variables) (c : ℕ) → 1 ≤ n → Sized n p →
+    (x : Word) × (q : List (List ℕ)) × (z : Seat Variables ProgramCounter)
     × (walk (algorithm n) me (11 * n + 10) (standing (Updating word value) m p L40 c)
     ≡ placed (record { words = slice_set m.words (me - 1) x; q = q }) z)
     × (x.toggle ≡ flipped p.t)
-whole_update n me word value m p c some size_a size_b size_g =
+whole_update n me word value m p c some sized =
     let d : Mode = Embedded word value in
     let u : Mode = Updating word value in
     let p0 : Variables = record p { j = 1 } in
     let answers = answers_from n me u m (n - 1) p0 c (omega arith) (omega arith) in
     let p1 : Variables = record p0 { x = answers.0; f = answers.1 } in
     let p2 : Variables = record p1 { moved = for_each n (λ k. 0) p1.moved; j = 1 } in
-    let view = clean n me d m p2 0 some refl size_a size_b size_g in
+    let view = clean n me d m p2 0 some refl (omega (arith, sized)) in
     let m1 : Registers = record m { q = view.0 } in
     let p3 : Variables = record view.1 { t = flipped view.1.t } in
     let x = word_put n me u m1 p3 in
@@ -243,46 +232,30 @@ whole_update n me word value m p c some size_a size_b size_g =
     )
 
 -- a second collect of words of which one has another toggle: its test fails, and one move is counted
-pub fails : (n i : ℕ) (m : Words) (m' : Registers) (p : Variables) (c : ℕ) → 1 ≤ n → p.j ≡ 1 → n ≤ length p.b →
+pub fails : (n i : ℕ) (m : Words) (m' : Registers) (p : Variables) (c : ℕ) → 1 ≤ n → p.j ≡ 1 → Sized n p →
     Filled (word_at m) no_word (n + 1) p.a →
     Filled (handshakes m 1) 0 (n + 1) p.g → IsOneOf n i → (word_at m i).toggle ≢ (word_at m'.words i).toggle →
     ((k : ℕ) → IsOneOf n k → k ≢ i → word_at m'.words k ≡ word_at m k) →
-    ((k : ℕ) → IsOneOf n k → moved_at p k ≤ 1) → moved_at p i ≡ 0 → (v : Variables)
+    ((k : ℕ) → IsOneOf n k → moved_at p k < limit) → moved_at p i ≡ 0 → (v : Variables)
     × (walk (algorithm n) 1 (2 * n + 4) (standing Scanning m' p L18 c) ≡ standing Scanning m' v L12 (suc c))
-    × (v.j ≡ 1) × (length v.a ≡ length p.a) × (length v.b ≡ length p.b) × (length v.g ≡ length p.g)
-    × ((k : ℕ) → IsOneOf n k → moved_at v k ≤ 1) × ((k : ℕ) → IsOneOf n k → k ≢ i → moved_at v k ≡ moved_at p k)
-fails n i m m' p c some first size a g one changed same few none =
-    let two = second_collect n 1 Scanning m' p c some first size in
+    × (v.j ≡ 1) × Sized n v × Moved n i limit p.moved v.moved
+fails n i m m' p c some first sized a g one changed same few none =
+    let two = second_collect n 1 Scanning m' p c some first sized in
     let p1 : Variables = record p { j = 1; b = two.0 } in
     let v : Variables = record p1 { moved = for_each n (counted 1 p1) p1.moved } in
     let differ : agree 1 p1 i ≡ false = compares n 1 i m m'.words p1 one a two.3 g ∙ alike_not 1 (word_at m i)
     (word_at m'.words i) (handshakes m 1 i) changed in
-    let others : (k : ℕ) → IsOneOf n k → k ≢ i → moved_at v k ≡ moved_at p k =
+    let agrees : (k : ℕ) → IsOneOf n k → k ≢ i → agree 1 p1 k ≡ true =
     λ k at other.
-    let agrees : agree 1 p1 k ≡ true =
     compares n 1 k m m'.words p1 at a two.3 g ∙ ap (λ (x : Word). alike 1 (word_at m k) x (handshakes m 1 k))
     (same k at other) ∙ alike_same 1 (word_at m k) in
-    for_each_at n (counted 1 p1) p1.moved k at ∙ ap (λ b. if not b then moved_at p1 k + 1 else moved_at p1 k) agrees in
-    let moves : moved_at v i ≡ 1 =
-    for_each_at n (counted 1 p1) p1.moved i one
-    ∙ ap (λ b. if not b then moved_at p1 i + 1 else moved_at p1 i) differ ∙ ap (λ y. y + 1) none in
-    let at_most : (k : ℕ) → IsOneOf n k → moved_at v k ≤ 1 =
-    λ k at. elim (cases_eq k i) [
-      | inl is ↦ omega (arith, ap (moved_at v) is ∙ moves)
-      | inr other ↦
-          omega (arith, others k at other, few k at)
-    ] in
-    let stays : first_true 1 (map (at_limit v) (places_to n)) ≡ None =
-    none_first (at_limit v) n (λ k at.
-    let e : moved_at v k ≤ 1 = at_most k at in other_number (moved_at v k) 2 (λ is. absurd (omega arith))) in
+    let moves = one_moves n i limit (λ k. not (agree 1 p1 k)) p.moved one (ap not differ)
+    (λ k at other. ap not (agrees k at other)) few (omega arith) in
     let test : walk (algorithm n) 1 4 (standing Scanning m' p1 L20 c) ≡ standing Scanning m' v L12 (suc c) =
-    rw (one_fails (agree 1 p1) n i one differ, stays) refl in (
+    rw (one_fails (agree 1 p1) n i one differ, moves.stays) refl in (
       v,
       walks (algorithm n) 1 (2 * n) 4 (2 * n + 4) (standing Scanning m' p L18 c) two.1 test refl,
       refl,
-      refl,
-      two.2,
-      refl,
-      at_most,
-      others,
+      omega (arith, sized, two.2),
+      moves,
     )

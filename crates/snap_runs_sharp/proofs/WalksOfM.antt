@@ -1,24 +1,23 @@
 -- Processes of M that step alone: the handshakes and the collects of a scan, its marks, its tests, and a whole update.
 use Rattle.std.specs.Prelude.{◌≡◌, ◌≢◌, ℕ, zero, suc, ◌+◌, ◌*◌, ◌-◌, ◌<◌, ◌≤◌, true, false, not, ◌&&◌, List, length}
 use Rattle.std.specs.Prelude.{map, take, drop, nat_eq, if◌then◌else◌, slice_index, slice_set, refl}
-use Rattle.std.proofs.Common.{sym, ◌∙◌, ap, arith, inl, inr}
-use Rattle.std.proofs.lemmas.Bool.{cases_eq}
+use Rattle.std.proofs.Common.{sym, ◌∙◌, ap, arith}
 use Rattle.std.proofs.lemmas.Grind.{get_or-set_at}
 use Rattle.std.proofs.lemmas.List.{length-set, length-append, get_or-set_other}
 use Rattle.std.proofs.lemmas.List.FromFn.{length-map-range_with_len}
 use Rattle.snap_runs.proofs.Common.{IsOneOf, Word, no_word, places_to}
 use Rattle.snap_runs.proofs.Algorithm.{Mode, Scanning, Embedded, Updating}
-use Rattle.snap_runs.proofs.Computing.{lt_true, lt_false, other_number, same_number}
+use Rattle.snap_runs.proofs.Computing.{lt_true, lt_false, same_number}
 use Rattle.snap_runs.proofs.Held.{word_at}
 use Rattle.snap_runs.proofs.Places.{for_each, for_each_at}
 use Rattle.snap_runs_of_m.proofs.Algorithm.{Words, Bits, Registers, Variables, ProgramCounter, L13, L17, L19, L21}
 use Rattle.snap_runs_of_m.proofs.Algorithm.{L24, L26, L29, L30, L35, L50, L51, L54, plain, place, bit, with_bit, flip}
-use Rattle.snap_runs_of_m.proofs.Algorithm.{same_words, same_at, marked, counted, at_limit, written, after_52}
+use Rattle.snap_runs_of_m.proofs.Algorithm.{same_words, same_at, limit, marked, counted, written, after_52}
 use Rattle.snap_runs_of_m.proofs.Algorithm.{after_55, after_57, algorithm}
 use Rattle.snap_runs_of_m.proofs.Basics.{row_elsewhere, set_here}
 use Rattle.snap_runs_sharp.proofs.Alone.{Alone, standing, idling, walk, walks}
-use Rattle.snap_runs_sharp.proofs.Filling.{Filled, all_hold, one_fails, none_first}
-use Rattle.snap_runs_sharp.proofs.Loops.{fill, collect}
+use Rattle.snap_runs_sharp.proofs.Filling.{Filled, all_hold, one_fails, Moved, one_moves}
+use Rattle.snap_runs_sharp.proofs.Loops.{fill, Collected, collect}
 
 abbrev pub Standing : Type 0
 Standing = Alone Variables ProgramCounter Registers
@@ -53,25 +52,21 @@ handshake n w me d m p c some first size =
 
 -- the first collect: the copies are filled with the words
 copies_first : (n w me : ℕ) (d : Mode) (m : Registers) (p : Variables) (c : ℕ) → 1 ≤ w → p.k ≡ 1 → w ≤ length p.a →
-    (a : Words)
-    × (walk (algorithm n w) me (2 * w) (standing d m p L17 c) ≡ standing d m (record p { k = 1; a = a }) L19 c)
-    × (length a ≡ length p.a) × Filled (word_at m.words) no_word (w + 1) a
+    Collected (algorithm n w) me 2 w (λ k xs. standing d m (record p { k = k; a = xs }) L17 c)
+    (λ xs. standing d m (record p { k = 1; a = xs }) L19 c) (word_at m.words) no_word p.a p.k
 copies_first n w me d m p c some first size =
     collect (algorithm n w) me 2 w (λ k xs. standing d m (record p { k = k; a = xs }) L17 c)
     (λ xs. standing d m (record p { k = 1; a = xs }) L19 c) (word_at m.words) no_word
-    (λ k xs lt. rw (lt_true k w lt) refl) (λ k xs is. rw (lt_false k w (omega arith)) refl)
-    p.k p.a first some size
+    (λ k xs lt. rw (lt_true k w lt) refl) (λ k xs is. rw (lt_false k w (omega arith)) refl) p.k p.a first some size
 
 -- the second collect
 copies_second : (n w me : ℕ) (d : Mode) (m : Registers) (p : Variables) (c : ℕ) → 1 ≤ w → p.k ≡ 1 → w ≤ length p.b →
-    (b : Words)
-    × (walk (algorithm n w) me (2 * w) (standing d m p L19 c) ≡ standing d m (record p { k = 1; b = b }) L21 c)
-    × (length b ≡ length p.b) × Filled (word_at m.words) no_word (w + 1) b
+    Collected (algorithm n w) me 2 w (λ k xs. standing d m (record p { k = k; b = xs }) L19 c)
+    (λ xs. standing d m (record p { k = 1; b = xs }) L21 c) (word_at m.words) no_word p.b p.k
 copies_second n w me d m p c some first size =
     collect (algorithm n w) me 2 w (λ k xs. standing d m (record p { k = k; b = xs }) L19 c)
     (λ xs. standing d m (record p { k = 1; b = xs }) L21 c) (word_at m.words) no_word
-    (λ k xs lt. rw (lt_true k w lt) refl) (λ k xs is. rw (lt_false k w (omega arith)) refl)
-    p.k p.b first some size
+    (λ k xs lt. rw (lt_true k w lt) refl) (λ k xs is. rw (lt_false k w (omega arith)) refl) p.k p.b first some size
 
 -- the bits of all processes are read late
 late_bits : (n w me : ℕ) (d : Mode) (m : Registers) (p : Variables) (c : ℕ) → 1 ≤ n → p.j ≡ 1 → n ≤ length p.h →
@@ -99,7 +94,7 @@ rest_from n w me d m (suc s) p c last same =
 
 -- How the handshake and the first collect leave a process: its bits are those of the others, and
 -- its copies those of the words.
-pub record Collected (n w me : ℕ) (d : Mode) (m : Registers) (p : Variables) (c : ℕ) : Type 0 where
+pub record Drawn (n w me : ℕ) (d : Mode) (m : Registers) (p : Variables) (c : ℕ) : Type 0 where
   pub q : Bits
   pub x : ℕ
   pub g : List ℕ
@@ -112,7 +107,7 @@ pub record Collected (n w me : ℕ) (d : Mode) (m : Registers) (p : Variables) (
   pub copies : Filled (word_at m.words) no_word (w + 1) a
 
 pub first_collect : (n w me : ℕ) (d : Mode) (m : Registers) (p : Variables) (c : ℕ) → 1 ≤ n → 1 ≤ w → p.j ≡ 1 →
-    p.k ≡ 1 → Sized n w p → Collected n w me d m p c
+    p.k ≡ 1 → Sized n w p → Drawn n w me d m p c
 first_collect n w me d m p c some words first_j first_k sized =
     let early = handshake n w me d m p c some first_j sized.g in
     let r = early.0 in
@@ -195,8 +190,7 @@ same_itself x = ap (λ b. b && nat_eq x.toggle x.toggle) (same_number x.id) ∙ 
 copies_of : (w k : ℕ) (m m' : Words) (a b : Words) → IsOneOf w k → Filled (word_at m) no_word (w + 1) a →
     Filled (word_at m') no_word (w + 1) b → same_at a b k ≡ same_words (word_at m k) (word_at m' k)
 copies_of w k m m' a b one filled_a filled_b =
-    ap (λ (x : Word). same_words x (word_at b k)) (filled_a k (omega arith) (omega arith))
-    ∙ ap (λ (x : Word). same_words (word_at m k) x) (filled_b k (omega arith) (omega arith))
+    cc (filled_a k (omega arith) (omega arith), filled_b k (omega arith) (omega arith))
 
 -- a double collect alone passes its test, and its view is made
 pub clean : (n w me : ℕ) (d : Mode) (m : Registers) (p : Variables) (c : ℕ) → 1 ≤ n → 1 ≤ w →
@@ -243,10 +237,9 @@ pub fails : (n w i : ℕ) (m m' : Registers) (p : Variables) (c : ℕ) → 1 ≤
     (word_at m'.words 1).id ≡ i → same_words (word_at m.words 1) (word_at m'.words 1) ≡ false →
     ((k : ℕ) → 1 < k → k ≤ w → word_at m'.words k ≡ word_at m.words k) →
     ((e : ℕ) → IsOneOf n e → e ≢ i → bit m'.p e 1 ≡ bit m.p e 1) →
-    ((e : ℕ) → IsOneOf n e → place p.moved e ≤ 2) → place p.moved i ≤ 1 → (v : Variables)
+    ((e : ℕ) → IsOneOf n e → place p.moved e < limit) → place p.moved i + 1 < limit → (v : Variables)
     × (walk (algorithm n w) 1 (3 * n + 4 * w + 8) (standing Scanning m' p L19 c) ≡ standing Scanning m' v L13 (suc c))
-    × (v.j ≡ 1) × (v.k ≡ 1) × Sized n w v × (place v.moved i ≡ place p.moved i + 1) × ((e : ℕ) → IsOneOf n e → e ≢ i →
-    place v.moved e ≡ place p.moved e)
+    × (v.j ≡ 1) × (v.k ≡ 1) × Sized n w v × Moved n i limit p.moved v.moved
 fails n w i m m' p c some words first_j first_k sized copies bits one id changed same put few_all few =
     let two = second_collect n w 1 Scanning m' p c some words first_j first_k sized in
     let p1 : Variables = record p { j = 1; k = 1; x = two.x; h = two.h; b = two.b; d = two.marks } in
@@ -269,26 +262,14 @@ fails n w i m m' p c some words first_j first_k sized copies bits one id changed
     get_or-set_other two.marks (x - 1) (e - 1) 1 0 (λ is. other (omega arith))
     ∙ two.marked_if e at
     ∙ unmarked (bit m'.p e 1) (place p.g e) (put e at other ∙ sym (bits e (omega arith) (omega arith))) in
-    let moved_i : place v.moved i ≡ place p.moved i + 1 =
-    for_each_at n (counted p2) p2.moved i one
-    ∙ ap (λ y. if nat_eq y 1 then place p.moved i + 1 else place p.moved i) mark_i in
-    let moved_other : (e : ℕ) → IsOneOf n e → e ≢ i → place v.moved e ≡ place p.moved e =
-    λ e at other. for_each_at n (counted p2) p2.moved e at ∙ ap
-    (λ y. if nat_eq y 1 then place p.moved e + 1 else place p.moved e) (mark_other e at other) in
+    let moves = one_moves n i limit (λ e. nat_eq (place marks e) 1) p.moved one (ap (λ y. nat_eq y 1) mark_i)
+    (λ e at other. ap (λ y. nat_eq y 1) (mark_other e at other)) few_all few in
     let fails_i : nat_eq (place marks i) 0 ≡ false = ap (λ y. nat_eq y 0) mark_i in
-    let below : (e : ℕ) → IsOneOf n e → nat_eq (place v.moved e) 3 ≡ false =
-    λ e at. elim (cases_eq e i) [
-      | inl is ↦
-          (let f : place v.moved e ≡ place p.moved i + 1 = ap (place v.moved) is ∙ moved_i in
-          other_number (place v.moved e) 3 (λ at_limit. absurd (omega arith)))
-      | inr other ↦ (let f : place v.moved e ≡ place p.moved e = moved_other e at other in
-          other_number (place v.moved e) 3 (λ at_limit. absurd (omega (arith, few_all e at))))
-    ] in
     let test : walk (algorithm n w) 1 3 (standing Scanning m' p1 L26 c) ≡ standing Scanning m' p2 L29 c =
     rw differ refl in
     let rest = rest_from n w 1 Scanning m' (w - 1) p2 c (omega arith) (λ k lt le. alike k lt le) in
     let back : walk (algorithm n w) 1 4 (standing Scanning m' p2 L30 c) ≡ standing Scanning m' v L13 (suc c) =
-    rw (one_fails (λ e. nat_eq (place marks e) 0) n i one fails_i, none_first (at_limit v) n below) refl in
+    rw (one_fails (λ e. nat_eq (place marks e) 0) n i one fails_i, moves.stays) refl in
     let start = standing Scanning m' p L19 c in
     let half = walks (algorithm n w) 1 (3 * n + 2 * w + 2) 3 (3 * n + 2 * w + 5) start two.walked test (omega arith) in
     let all = walks (algorithm n w) 1 (3 * n + 2 * w + 5) (2 * (w - 1) + 1) (3 * n + 4 * w + 4) start half rest
@@ -298,8 +279,7 @@ fails n w i m m' p c some words first_j first_k sized copies bits one id changed
       refl,
       refl,
       omega (arith, sized, two.size_b, two.size_h),
-      moved_i,
-      moved_other,
+      moves,
     )
 
 -- an update answers the bits of the processes from j on

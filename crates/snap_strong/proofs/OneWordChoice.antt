@@ -25,7 +25,7 @@ use Rattle.snap_runs.proofs.Embedding.{next_state}
 use Rattle.snap_runs.proofs.Order.{Pairs, Apart, all_pairs, pairs_push, keeps_order}
 use Rattle.snap_strong.specs.StrongLinearization.{IsCompleted, IsCompletedLinearization}
 use Rattle.snap_strong.specs.OneWord.{one_word, shared_by}
-use Rattle.snap_strong.proofs.OneWordItems.{booked, process, Stage, idle, stage_map, stage_begun, stage_closed}
+use Rattle.snap_strong.proofs.OneWordItems.{booked, process, Stage, idle, stage_map}
 use Rattle.snap_strong.proofs.OneWordItems.{Leaves, Quiet, Begins, Closes, item_does}
 use Rattle.snap_strong.proofs.Placed.{op_of, outcome_of, ends_so, ends_is_end, same_action, end_at, ended}
 use Rattle.snap_strong.proofs.Placed.{not_ended_before, ended_now, ended_once, GoesOn, EndUpTo, Placed, placed_longer, placed_closed}
@@ -248,11 +248,11 @@ module _ (n : ℕ) (items : List Item) (fits : IsValidRun (run_of_items one_word
           word_is = leaves.word;
           count = leaves.count ∙ b.count;
           stages = stages_after more q.word q.process leaves
-              (stage_begun (Free i more) (Took i more) q.action q.process
-              (took_now i (last_call r i t) os q.action q.free) q.stage)
+              (stage_map q.stage (λ none. absurd none)
+              (λ g is. subst (Took i more) (sym is) (took_now i (last_call r i t) os q.action q.free)))
               (λ j his other. let differ : i ≢ j = λ same. other (sym same) in
-              stage_map (λ free. All-push (IsNone j) os o free (λ same still. differ same))
-              (λ g. took_more j os o g differ) (b.stages j his));
+              stage_map (b.stages j his) (λ free. All-push (IsNone j) os o free (λ same still. differ same))
+              (λ g. took_more j os o g differ));
           placed = All-push (Placed r (suc t)) os o (all_longer os no_end b.placed) now;
           apart = pairs_push Apart (λ x. Placed r t x × IsNone i x) os o
               (λ x h. (
@@ -283,9 +283,9 @@ module _ (n : ℕ) (items : List Item) (fits : IsValidRun (run_of_items one_word
           word_is = leaves.word;
           count = leaves.count ∙ b.count;
           stages = stages_after next b.word q.process leaves
-              (stage_closed (Free i next) (Took i next) q.process (free_now i (suc t) os) q.stage)
+              (stage_map q.stage (λ u. free_now i (suc t) os) (λ g none. absurd none))
               (λ j his other.
-              stage_map (free_ended j i (suc t) os) (λ g. took_ended j i (suc t) os g other) (b.stages j his));
+              stage_map (b.stages j his) (free_ended j i (suc t) os) (λ g. took_ended j i (suc t) os g other));
           placed = All-map (Placed r (suc t)) (ended i (suc t)) os
               (λ k d lt. placed_closed r t i (slice_index_or os k d) refl
               (λ his still. q.ends ∙ ap outcome_of (sym (q.took.2 k d lt his still))) (b.placed k d lt));

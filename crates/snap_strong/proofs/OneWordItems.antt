@@ -67,24 +67,15 @@ pub data Stage (Free : Type 0) (Took : Action → Type 0) : Process → Type 0 w
       Stage Free Took (process (at_line (Update 1 value) 21) x xs v)
   crashed : (was : Option Activity) (l : Locals) → Stage Free Took (record { status = Crashed was; locals = l })
 
-pub stage_map : {F G : Type 0} {T U : Action → Type 0} {p : Process} → (F → G) → ((b : Action) → T b → U b) →
-    Stage F T p → Stage G U p
-stage_map f t (idle x xs v h) = idle x xs v (f h)
-stage_map f t (reads x xs v h) = reads x xs v (f h)
-stage_map f t (views x xs v h) = views x xs v (t (Sees (x.datum ∷ [])) h)
-stage_map f t (returns x xs v h) = returns x xs v (t (Sees v) h)
-stage_map f t (writes value x xs v h) = writes value x xs v (f h)
-stage_map f t (finishes value x xs v h) = finishes value x xs v (t (Sets 1 value) h)
-stage_map f t (crashed was l) = crashed was l
-
--- the stage of a process whose operation has just taken place, or ended
-pub stage_begun : (F : Type 0) (T : Action → Type 0) (g : Action) (p : Process) → T g → Stage ⊥ (λ b. b ≡ g) p →
-    Stage F T p
-stage_begun F T g p took h =
-    stage_map {F = ⊥} {G = F} {T = λ b. b ≡ g} {U = T} (λ none. absurd none) (λ b is. subst T (sym is) took) h
-
-pub stage_closed : (F : Type 0) (T : Action → Type 0) (p : Process) → F → Stage Unit (λ b. ⊥) p → Stage F T p
-stage_closed F T p free h = stage_map {F = Unit} {G = F} {T = λ b. ⊥} {U = T} (λ u. free) (λ b none. absurd none) h
+pub stage_map : {F G : Type 0} {T U : Action → Type 0} {p : Process} → Stage F T p → (F → G) →
+    ((b : Action) → T b → U b) → Stage G U p
+stage_map (idle x xs v h) f t = idle x xs v (f h)
+stage_map (reads x xs v h) f t = reads x xs v (f h)
+stage_map (views x xs v h) f t = views x xs v (t (Sees (x.datum ∷ [])) h)
+stage_map (returns x xs v h) f t = returns x xs v (t (Sees v) h)
+stage_map (writes value x xs v h) f t = writes value x xs v (f h)
+stage_map (finishes value x xs v h) f t = finishes value x xs v (t (Sets 1 value) h)
+stage_map (crashed was l) f t = crashed was l
 
 -- what an item of process i leaves: this word, this process, and the others as they were
 pub record Leaves (S S' : State) (i : ℕ) (y : Word) (p : Process) : Type 0 where
@@ -176,6 +167,27 @@ module _ (n : ℕ) (F : Type 0) (T : Action → Type 0) (S : State) (i : ℕ) (y
     no_end = no_end;
   })
 
+  -- an item that ends an operation
+  comes_to_end : (x : Word) (xs : List Word) (v : List ℕ) (b : Action) (old : Status) → T b →
+      ((c e : ℕ) (now : List ℕ) (os : List Operation) →
+      booked i c e now (outcome_of b) old os ≡ map (ended i e) os) →
+      Case F T S i y old (
+        record {
+          memory = S.memory;
+          processes = slice_set S.processes (i - 1) (process Idle x xs v);
+        },
+        outcome_of b,
+      )
+  comes_to_end x xs v b old took same = inr (inr (record {
+    action = b;
+    took = took;
+    process = process Idle x xs v;
+    stage = idle x xs v tt;
+    leaves = leaves_put S i y word one S.memory y (process Idle x xs v) word;
+    ends = refl;
+    booked_is = same;
+  }))
+
   -- the step of a process that stands so
   abbrev does : Process → State × Outcome
   does p = step one_word (shared_by n) S i p p.status
@@ -227,15 +239,8 @@ module _ (n : ℕ) (F : Type 0) (T : Action → Type 0) (S : State) (i : ℕ) (y
   steps p is (views x xs v took) =
       goes_on (process (at_line Scan 12) x xs (x.datum ∷ [])) (at_line Scan 11) outcome.Stepped
       (returns x xs (x.datum ∷ []) took) (λ ends. ends) (λ c e now os. refl)
-  steps p is (returns x xs v took) = inr (inr (record {
-    action = Sees v;
-    took = took;
-    process = process Idle x xs v;
-    stage = idle x xs v tt;
-    leaves = leaves_put S i y word one S.memory y (process Idle x xs v) word;
-    ends = refl;
-    booked_is = λ c e now os. refl;
-  }))
+  steps p is (returns x xs v took) =
+      comes_to_end x xs v (Sees v) (at_line Scan 12) took (λ c e now os. refl)
   steps p is (writes value x xs v f) = inr (inl (record {
     action = Sets 1 value;
     free = f;
@@ -253,15 +258,8 @@ module _ (n : ℕ) (F : Type 0) (T : Action → Type 0) (S : State) (i : ℕ) (y
     allows = (omega arith, omega arith);
     after_is = refl;
   }))
-  steps p is (finishes value x xs v took) = inr (inr (record {
-    action = Sets 1 value;
-    took = took;
-    process = process Idle x xs v;
-    stage = idle x xs v tt;
-    leaves = leaves_put S i y word one S.memory y (process Idle x xs v) word;
-    ends = refl;
-    booked_is = λ c e now os. refl;
-  }))
+  steps p is (finishes value x xs v took) =
+      comes_to_end x xs v (Sets 1 value) (at_line (Update 1 value) 21) took (λ c e now os. refl)
   steps p is (crashed was l) = skips p reason.Crashed is (crashed was l)
 
   -- a call that is admitted

@@ -141,17 +141,14 @@ module _ (r : Run) where
         | inr less ↦ inl (h.0, omega arith, h.2, h.3, h.4)
       ]
 
-  end_is : (i c t e : ℕ) (b : Action) (end : Option ℕ) → end ≡ Some e → EndUpTo i c b t end → EndUpTo i c b t (Some e)
-  end_is i c t e b end some h = subst (EndUpTo i c b t) some h
-
   pub ended_at : (t e : ℕ) (o : Operation) → o.end ≡ Some e → Placed t o → EndUpTo o.process o.call o.action t (Some e)
-  ended_at t e o some h = end_is o.process o.call t e o.action o.end some h.end
+  ended_at t e o some h = subst (EndUpTo o.process o.call o.action t) some h.end
 
   pub placed_shorter : (t : ℕ) (o : Operation) → HasEnded o → Placed (suc t) o → Placed t o ⊎ (o.end ≡ Some (suc t))
   placed_shorter t o some h =
       let end = ended_at (suc t) some.0 o some.1 h in
       elim (end_shorter o.process o.call t some.0 o.action o.end some.1 h.end) [
-        | inl sooner ↦ (let there = end_is o.process o.call t some.0 o.action o.end some.1 sooner in
+        | inl sooner ↦ (let there = subst (EndUpTo o.process o.call o.action t) some.1 sooner in
             let order : o.call ≤ t = omega arith in
             inl assumption)
         | inr now ↦ inr (some.1 ∙ ap (λ y. Some y) now)

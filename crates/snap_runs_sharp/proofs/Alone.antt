@@ -5,10 +5,9 @@ use Rattle.std.proofs.Common.{◌∙◌, ap, arith}
 use Rattle.snap_runs.proofs.Common.{IsOneOf, Item, Step, Call, Op, Scan, Update, Outcome, Called, Stepped, Answered}
 use Rattle.snap_runs.proofs.Common.{Finished, Reason}
 use Rattle.snap_semantics.specs.Table.{call_skip}
-use Rattle.snap_runs.proofs.Algorithm.{Mode, Auxiliary, Scanning, Updating, Control, Idle, At, Move, To, Begin}
+use Rattle.snap_runs.proofs.Algorithm.{Mode, Scanning, Updating, Control, Idle, At, Move, To, Begin}
 use Rattle.snap_runs.proofs.Algorithm.{Answer, Finish, TypedProcess, TypedState, Algorithm, Change, New, by_move}
-use Rattle.snap_runs.proofs.Algorithm.{by_step, by_admission, by_call, typed_at, changed, happens, stepped_auxiliary}
-use Rattle.snap_runs.proofs.Algorithm.{begun_auxiliary, called_auxiliary}
+use Rattle.snap_runs.proofs.Algorithm.{by_step, by_admission, by_call, typed_at, changed, happens}
 use Rattle.snap_runs.proofs.Embedding as embed
 
 -- what a process is at, and how many double collects its scan has made
@@ -99,36 +98,24 @@ module _ {V P M : Type 0} (a : Algorithm V P M) where
 
   module _ (i : ℕ) (one : IsOneOf a.shape.n i) where
     -- the process is set
-    seat_set : (x : State) (m : M) (control : Control P) (p : V) (g : Auxiliary) (c : ℕ) (o : Outcome) →
-        length x.processes ≡ a.shape.n → g.collects ≡ c →
-        alone_of (changed x i (New m (record { control = control; variables = p; auxiliary = g }) o)) i
-        ≡ placed m (seated control p c)
-    seat_set x m control p g c o count same =
-        let q : TypedProcess V P M = record { control = control; variables = p; auxiliary = g } in
+    own_seat : (x : State) (m : M) (q : TypedProcess V P M) (o : Outcome) → length x.processes ≡ a.shape.n →
+        alone_of (changed x i (New m q o)) i ≡ placed m (seat_of q)
+    own_seat x m q o count =
         ap (λ (y : TypedProcess V P M). placed m (seat_of y)) (embed.own_process a x i m q o count one)
-        ∙ ap (λ y. placed m (seated control p y)) same
 
     move_seat : (time : ℕ) (x : State) (k : P) (v : Move V P M) → length x.processes ≡ a.shape.n →
         alone_of (changed x i (by_move a time x.memory (typed_at a x i) k v)) i
         ≡ after_move k x.memory (typed_at a x i).variables (typed_at a x i).auxiliary.collects v
     move_seat time x k (To d m' p' k') count =
-        let g = (typed_at a x i).auxiliary in
-        let c = more g.collects (a.tests k) in
-        seat_set x m' (At d k') p' (stepped_auxiliary a k time g) c Stepped count (more_is g.collects (a.tests k))
-    move_seat time x k (Begin d p' k') count =
-        seat_set x x.memory (At d k') p' (begun_auxiliary a k time (typed_at a x i).auxiliary) 0 Stepped count refl
+        own_seat x m' _ Stepped count
+        ∙ ap (standing d m' p' k') (more_is (typed_at a x i).auxiliary.collects (a.tests k))
+    move_seat time x k (Begin d p' k') count = own_seat x x.memory _ Stepped count
     move_seat time x k (Answer view) count =
-        let q = typed_at a x i in
-        let g = q.auxiliary in
-        let c = more g.collects (a.tests k) in
-        seat_set x x.memory Idle q.variables (stepped_auxiliary a k time g) c (Answered view) count
-        (more_is g.collects (a.tests k))
+        own_seat x x.memory _ (Answered view) count
+        ∙ ap (idling x.memory (typed_at a x i).variables) (more_is (typed_at a x i).auxiliary.collects (a.tests k))
     move_seat time x k Finish count =
-        let q = typed_at a x i in
-        let g = q.auxiliary in
-        let c = more g.collects (a.tests k) in
-        seat_set x x.memory Idle q.variables (stepped_auxiliary a k time g) c Finished count
-        (more_is g.collects (a.tests k))
+        own_seat x x.memory _ Finished count
+        ∙ ap (idling x.memory (typed_at a x i).variables) (more_is (typed_at a x i).auxiliary.collects (a.tests k))
 
     step_seat : (time : ℕ) (x : State) (control : Control P) →
         length x.processes ≡ a.shape.n → (typed_at a x i).control ≡ control →
@@ -158,16 +145,8 @@ module _ {V P M : Type 0} (a : Algorithm V P M) where
 
     admitted : (time : ℕ) (x : State) (op : Op) → length x.processes ≡ a.shape.n →
         alone_of (changed x i (by_admission a time x.memory (typed_at a x i) op None)) i ≡ after_call op (alone_of x i)
-    admitted time x Scan count =
-        let q = typed_at a x i in
-        seat_set x x.memory (At Scanning (a.counter Scan)) q.variables
-        (called_auxiliary time Scan q.auxiliary) 0 Called count refl
-    admitted time x (Update word value) count =
-        let q = typed_at a x i in
-        let g = q.auxiliary in
-        let op : Op = Update word value in
-        seat_set x x.memory (At (Updating word value) (a.counter op)) q.variables
-        (called_auxiliary time op g) g.collects Called count refl
+    admitted time x Scan count = own_seat x x.memory _ Called count
+    admitted time x (Update word value) count = own_seat x x.memory _ Called count
 
     pub call_alone : (time : ℕ) (x : State) (op : Op) → length x.processes ≡ a.shape.n →
         (typed_at a x i).control ≡ Idle → call_skip a.source.kind a.shape i op ≡ None →

@@ -1,12 +1,12 @@
 -- No finished scan makes more double collects than the bounds,
 -- and a scan of U that steps alone makes one and not two.
 use Rattle.std.proofs.Common.{◌≡◌, ℕ, zero, suc, ◌+◌, ◌*◌, ◌-◌, ◌<◌, ◌≤◌, List, ◌∷◌, ◌++◌, length, None, slice_index_or}
-use Rattle.std.proofs.Common.{refl, sym, ◌∙◌, ap, subst, arith, inl, inr}
-use Rattle.std.proofs.lemmas.Bool.{cases_eq, cases_lt}
+use Rattle.std.proofs.Common.{refl, sym, ◌∙◌, ap, subst, arith}
 use Rattle.std.specs.List.{All}
 use Rattle.std.proofs.lemmas.List.Elements.{All-append, All-replicate}
 use Rattle.snap_runs.proofs.Common.{Item, Step, Call, Scan, Run, item}
-use Rattle.snap_runs.specs.Scan.{FinishedScan, double_collects}
+use Rattle.snap_runs.specs.Scan.{FinishedScan}
+use Rattle.snap_runs.proofs.Operations.{same_answer}
 use Rattle.snap_runs_of_b.specs.Promises as b
 use Rattle.snap_runs_of_b.proofs.Bounds as bounds_of_b
 use Rattle.snap_runs_of_m.specs.Promises as m
@@ -53,16 +53,6 @@ module _ (r : Run) (first : Item) (rest : List Item) (items_are : r.items ≡ fi
       absurd (no_call i t (omega arith) (sym (ap (λ xs. slice_index_or xs (suc t) (Step 0)) items_are) ∙ is))
 
   -- a run of one call has one finished scan at most
-  one_end : (i c e e' : ℕ) (view view' : List ℕ) → FinishedScan r i None c e view →
-      FinishedScan r i None c e' view' → e ≡ e'
-  one_end i c e e' view view' h g = elim (cases_eq e e') [
-    | inl same ↦ same
-    | inr other ↦ elim (cases_lt e e') [
-      | inl less ↦ absurd (g.scan.goes_on e view h.order less h.ends)
-      | inr more ↦ absurd (h.scan.goes_on e' view' g.order (omega arith) g.ends)
-    ]
-  ]
-
   one_bound : (x y : ℕ) → Reaches x r → Reaches y r → x ≡ y
   one_bound x y h g =
       let mine = h.finished in
@@ -76,12 +66,8 @@ module _ (r : Run) (first : Item) (rest : List Item) (items_are : r.items ≡ fi
       let same : FinishedScan r h.process None h.call g.answer g.view =
       subst (λ c. FinishedScan r h.process None c g.answer g.view) call
       (subst (λ k. FinishedScan r k None g.call g.answer g.view) process yours) in
-      let answer : h.answer ≡ g.answer = one_end h.process h.call h.answer g.answer h.view g.view mine same in
-      sym h.collects
-      ∙ ap (double_collects r h.process h.call) answer
-      ∙ ap (λ c. double_collects r h.process c g.answer) (sym call)
-      ∙ ap (λ k. double_collects r k g.call g.answer) (sym process)
-      ∙ g.collects
+      let answer : h.answer ≡ g.answer = same_answer r h.process h.call h.answer g.answer h.view g.view mine same in
+      cc (h.collects, g.collects)
 
 -- the steps of the scan alone
 tail_of : ℕ → List Item

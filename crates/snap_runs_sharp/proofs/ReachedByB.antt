@@ -4,10 +4,8 @@ use Rattle.std.proofs.Common.{◌≡◌, ◌≢◌, ℕ, suc, ◌+◌, ◌*◌, 
 use Rattle.std.proofs.Common.{refl, ◌∙◌, ap, subst, arith}
 use Rattle.std.proofs.lemmas.Grind.{get_or-set_at}
 use Rattle.std.proofs.lemmas.List.{length-set, length-replicate, get_or-set_other, get_or-replicate}
-use Rattle.std.proofs.lemmas.Nat.{mul-le}
 use Rattle.snap_words.specs.declared.kind.KindTag.TheVariants as kind
 use Rattle.snap_runs.proofs.Common.{IsOneOf, Word, no_word, Update}
-use Rattle.snap_words.specs.Shape.{max_count}
 use Rattle.snap_semantics.specs.Table.{call_skip}
 use Rattle.snap_runs.proofs.Algorithm.{Scanning}
 use Rattle.snap_runs.proofs.Computing.{lt_true, le_true, same_number}
@@ -21,7 +19,7 @@ use Rattle.snap_runs_of_b.proofs.Flows.{listed}
 use Rattle.snap_runs_of_b.proofs.Runs.{execution}
 use Rattle.snap_runs_sharp.specs.Reached.{Reaches, IsReachedByB, ScheduleOfBReaches}
 use Rattle.snap_runs_sharp.specs.Schedules.{others, round_of_b, schedule_of_b}
-use Rattle.snap_runs_sharp.proofs.Items.{turns_round, turns_schedule, round_length, schedule_length, steady}
+use Rattle.snap_runs_sharp.proofs.Items.{turns_round, turns_schedule, steady}
 use Rattle.snap_runs_sharp.proofs.Rounds.{Turned, rounds_reach}
 use Rattle.snap_runs_sharp.proofs.Scenes.{round_leads}
 use Rattle.snap_runs_sharp.proofs.WalksOfB.{Sized, first_collect, clean, whole_update, fails}
@@ -97,14 +95,9 @@ opening n some =
     }
 
 -- the schedule fits
-fits : (n : ℕ) → 1 ≤ n → n ≤ max_count → Steady (run_of n (schedule_of_b n))
-fits n some most =
+fits : (n : ℕ) → 1 ≤ n → Steady (run_of n (schedule_of_b n))
+fits n some =
     let one : IsOneOf n 1 = (omega arith, omega arith) in
-    let each : (r : ℕ) → length (round_of_b n r) ≡ 19 * n + 15 = λ r.
-    omega (arith, round_length (r + 2) (r + 2) (6 * n) (11 * n + 10) (2 * n + 4)) in
-    let size = schedule_length (19 * n + 15) (round_of_b n) (others n) 2 (8 * n + 2) each in
-    let product : (others n) * (19 * n + 15) ≤ 64 * 1231 =
-    mul-le (others n) (19 * n + 15) 64 1231 (omega arith) (omega arith) in
     steady (run_of n (schedule_of_b n))
     (turns_schedule n (round_of_b n) (others n) 2 (8 * n + 2) one
     (λ r le. turns_round n (r + 2) (r + 2) (6 * n) (11 * n + 10) (2 * n + 4) one (omega arith, omega arith)))
@@ -117,7 +110,7 @@ schedule_of_b_reaches_lem n counts =
     (opened n) (omega arith) refl (opening n (omega arith)) (one_round n)
     (λ m p h. let end = clean n 1 Scanning m p (others n) (omega arith) h.first h.sized in
     (record m { q = end.0 }, end.1, end.2))
-    (λ m p. refl) (execution n (schedule_of_b n) (fits n (omega arith) (omega arith))) refl)
+    (λ m p. refl) (execution n (schedule_of_b n) (fits n (omega arith))) refl)
 
 pub is_reached_by_b_lem : IsReachedByB
 is_reached_by_b_lem n counts = (schedule_of_b n, schedule_of_b_reaches_lem n counts)

@@ -4,9 +4,8 @@ use Rattle.std.proofs.Common.{◌≡◌, ◌≢◌, ℕ, suc, ◌+◌, ◌*◌, 
 use Rattle.std.proofs.Common.{None, nat_eq, refl, sym, ◌∙◌, ap, subst, arith}
 use Rattle.std.proofs.Math.Bool.{and-false}
 use Rattle.std.proofs.lemmas.Grind.{get_or-set_at}
-use Rattle.std.proofs.lemmas.List.{length-set, length-append, length-replicate, get_or-set_other, get_or-replicate}
+use Rattle.std.proofs.lemmas.List.{length-set, length-replicate, get_or-set_other, get_or-replicate}
 use Rattle.std.proofs.lemmas.List.Elements.{All-append}
-use Rattle.std.proofs.lemmas.Nat.{mul-le}
 use Rattle.snap_words.specs.declared.kind.KindTag.TheVariants as kind
 use Rattle.snap_runs.proofs.Common.{IsOneOf, Word, no_word, Update}
 use Rattle.snap_words.specs.Shape.{max_count}
@@ -27,7 +26,7 @@ use Rattle.snap_runs_sharp.specs.Schedules.{others, round_with}
 use Rattle.snap_runs_sharp.specs.Schedules.{turn_of_m, round_of_m, schedule_of_m}
 use Rattle.snap_runs_sharp.proofs.Alone.{Seat, seated, standing}
 use Rattle.snap_runs_sharp.proofs.Items.{IsTurn, AreTurns, turns_round, turns_schedule}
-use Rattle.snap_runs_sharp.proofs.Items.{round_length, schedule_length, steady}
+use Rattle.snap_runs_sharp.proofs.Items.{steady}
 use Rattle.snap_runs_sharp.proofs.Filling.{Moved}
 use Rattle.snap_runs_sharp.proofs.Rounds.{Turned, rounds_reach}
 use Rattle.snap_runs_sharp.proofs.Scenes.{Leads, leads_on, Beside, round_leads}
@@ -114,6 +113,9 @@ record Kept (n w r : ℕ) (m : Registers) (p : Variables) : Type 0 where
   few : (k : ℕ) → IsOneOf n k → place p.moved k < limit
   none : (k : ℕ) → IsOneOf n k → suc r < k → place p.moved k ≡ 0
 
+first_sized : (n w : ℕ) → Sized n w (first_variables n w)
+first_sized n w = omega (arith, length-replicate (max n w) first_word, length-replicate {A = ℕ} (max n w) 0)
+
 one_round : (n w r : ℕ) → 1 ≤ w → suc r ≤ others n → (m : Registers) (p : Variables) → Kept n w r m p →
     Turned (algorithm n w) L13 (λ r. 2 * r) (Kept n w) r m p (round_of_m n w r)
 one_round n w r some le m p h =
@@ -121,11 +123,9 @@ one_round n w r some le m p h =
     let i = r + 2 in
     let at : IsOneOf n i = (omega arith, omega arith) in
     let v = first_variables n w in
-    let start : Sized n w v =
-    omega (arith, length-replicate (max n w) first_word, length-replicate {A = ℕ} (max n w) 0) in
     let none_i : place p.moved i ≡ 0 = h.none i at (omega arith) in
     let old_id : (word_at m.words 1).id ≤ suc r = h.id in
-    let first = turns n w i (2 * r) 0 m p v at (omega arith) some h.keeps start
+    let first = turns n w i (2 * r) 0 m p v at (omega arith) some h.keeps (first_sized n w)
     (λ y id toggle. ap (λ b. b && nat_eq (word_at m.words 1).toggle y.toggle)
     (other_number (word_at m.words 1).id y.id (λ is. absurd (omega arith)))) h.few (omega arith) in
     let m1 = first.memory in
@@ -173,7 +173,7 @@ opening n w some words =
       keeps = record {
         first_j = refl;
         first_k = refl;
-        sized = omega (arith, length-replicate (max n w) first_word, length-replicate {A = ℕ} (max n w) 0);
+        sized = omega (arith, first_sized n w);
         words = length-replicate w first_word;
       };
       id = omega (arith, ap (λ (y : Word). y.id) (get_or-replicate w (1 - 1) first_word no_word (omega arith)));
@@ -182,19 +182,9 @@ opening n w some words =
     }
 
 -- the schedule fits
-fits : (n w : ℕ) → 1 ≤ n → n ≤ max_count → w ≤ max_count → Steady (run_of n w (schedule_of_m n w))
-fits n w some most most_words =
+fits : (n w : ℕ) → 1 ≤ n → Steady (run_of n w (schedule_of_m n w))
+fits n w some =
     let one : IsOneOf n 1 = (omega arith, omega arith) in
-    let each : (r : ℕ) → length (round_of_m n w r) ≡ 34 * n + 24 * w + 46 =
-    λ r.
-    omega (
-      arith,
-      length-append (turn_of_m n w r) (turn_of_m n w r),
-      round_length (r + 2) 1 (4 * n + 2 * w) (10 * n + 6 * w + 14) (3 * n + 4 * w + 8),
-    ) in
-    let all = schedule_length (34 * n + 24 * w + 46) (round_of_m n w) (others n) 3 (7 * n + 6 * w + 4) each in
-    let product : (others n) * (34 * n + 24 * w + 46) ≤ 64 * 3758 =
-    mul-le (others n) (34 * n + 24 * w + 46) 64 3758 (omega arith) (omega arith) in
     let turn : (r : ℕ) → suc r ≤ others n → AreTurns n (turn_of_m n w r) =
     λ r le.
     turns_round n (r + 2) 1 (4 * n + 2 * w) (10 * n + 6 * w + 14) (3 * n + 4 * w + 8) one (omega arith, omega arith) in
@@ -215,7 +205,7 @@ schedule_of_m_reaches_lem n w shape =
     clean n w 1 Scanning m p (2 * others n) (omega arith) some h.keeps.first_j h.keeps.first_k h.keeps.sized in
     (record m { q = end.0 }, end.1, end.2))
     (λ m p. refl)
-    (execution n w (schedule_of_m n w) some (fits n w (omega arith) (omega arith) (omega arith))) refl)
+    (execution n w (schedule_of_m n w) some (fits n w (omega arith))) refl)
 
 pub is_reached_by_m_lem : IsReachedByM
 is_reached_by_m_lem n w shape = (schedule_of_m n w, schedule_of_m_reaches_lem n w shape)

@@ -66,33 +66,24 @@ shaking d m p c r j g = standing d (record m { q = r.q }) (record p { j = j; a =
 abbrev shook : {size : ℕ} → Mode → Registers → Variables → ℕ → Shaken size → List ℕ → Standing
 shook d m p c r g = standing d (record m { q = r.q }) (record p { j = 1; a = r.a; g = g; marks = r.marks }) L16 c
 
-shakes : (size n me : ℕ) (d : Mode) (m : Registers) (p : Variables) (c : ℕ) (r : Shaken size) (j : ℕ) (g : List ℕ) →
-    0 < j → j < n → n ≤ size → walk (algorithm n) me 4 (shaking d m p c r j g)
-    ≡ shaking d m p c (shaken me m r j g) (j + 1) (slice_set g (j - 1) (handshakes m.words me j))
-unfolding shaken
-shakes size n me d m p c r j g pos lt le = rw (← drawn_is size me m r j g pos (omega arith), lt_true j n lt) refl
-
-shakes_last : (size n me : ℕ) (d : Mode) (m : Registers) (p : Variables) (c : ℕ) (r : Shaken size) (j : ℕ)
-    (g : List ℕ) → 0 < j → j ≡ n → n ≤ size → walk (algorithm n) me 4 (shaking d m p c r j g)
-    ≡ shook d m p c (shaken me m r j g) (slice_set g (j - 1) (handshakes m.words me j))
-unfolding shaken
-shakes_last size n me d m p c r j g pos is le =
-    rw (← drawn_is size me m r j g pos (omega arith), lt_false j n (omega arith)) refl
-
 -- the handshake with all processes: the bits that their words say are drawn, and put
 handshake : (n me : ℕ) (d : Mode) (m : Registers) (p : Variables) (c : ℕ) → 1 ≤ n → p.j ≡ 1 → Sized n p →
     (r : Shaken (length p.a)) × (g : List ℕ)
     × (walk (algorithm n) me (4 * n) (standing d m p L12 c) ≡ shook d m p c r g)
     × (length g ≡ length p.g) × Filled (handshakes m.words me) 0 (n + 1) g
+unfolding shaken
 handshake n me d m p c some first sized =
     let size = length p.a in
     let start : Shaken size = record { q = m.q; a = p.a; marks = p.marks; size_a = refl } in
     let at = λ (r : Shaken size) (j : ℕ) (g : List ℕ). shaking d m p c r j g in
     let beyond = λ (r : Shaken size) (g : List ℕ). shook d m p c r g in
+    let is_drawn : (r : Shaken size) (j : ℕ) (g : List ℕ) → 0 < j → j ≤ n →
+    drawn me m r j g ≡ slice_set g (j - 1) (handshakes m.words me j) =
+    λ r j g pos le. drawn_is size me m r j g pos (omega arith) in
     fill (algorithm n) me 4 n at beyond (handshakes m.words me) 0
-    (λ r j g pos lt long. (shaken me m r j g, shakes size n me d m p c r j g pos lt sized.a))
-    (λ r j g pos is long. (shaken me m r j g, shakes_last size n me d m p c r j g pos is sized.a)) start p.j p.g
-    first some sized.g
+    (λ r j g pos lt long. (shaken me m r j g, rw (← is_drawn r j g pos (omega arith), lt_true j n lt) refl))
+    (λ r j g pos is long. (shaken me m r j g, rw (← is_drawn r j g pos (omega arith), lt_false j n (omega arith)) refl))
+    start p.j p.g first some sized.g
 
 -- the first collect: the copies are filled with the words
 copies_first : (n me : ℕ) (d : Mode) (m : Registers) (p : Variables) (c : ℕ) → 1 ≤ n → p.j ≡ 1 → n ≤ length p.a →

@@ -44,15 +44,24 @@ module _ {V P M : Type 0} (a : Algorithm V P M) where
     abbrev r : Run
     r = embed.run_of a items
 
-    -- a process that answers a scan at item t + 1 has made as many double collects as are counted
-    answered : (t i : ℕ) (d : Mode) (k : P) (m : M) (p : V) (c : ℕ) (view : List ℕ) → t < length items →
-        IsOneOf a.shape.n i → item_at items t ≡ Step i →
-        alone_of a (typed_state a items t) i ≡ standing d m p k c → a.move i d m p k ≡ Answer view → Reaches c r
-    answered t i d k m p c view short one is stands answers =
+    -- A schedule whose last step answers a scan reaches as many double collects as were counted.
+    pub reaches : (start : List Item) (i : ℕ) (d : Mode) (k : P) (m : M) (p : V) (c : ℕ) (view : List ℕ) →
+        items ≡ start ++ Step i ∷ [] → IsOneOf a.shape.n i →
+        alone_of a (run_from a 0 (first_state a) start) i ≡ standing d m p k c →
+        a.move i d m p k ≡ Answer view → Reaches c r
+    reaches start i d k m p c view shape one stands answers =
+        let t = length start in
+        let size : length items ≡ length start + 1 = ap length shape ∙ length-append start (Step i ∷ []) in
+        let short : t < length items = omega arith in
+        let is : item_at items t ≡ Step i =
+        ap (λ xs. item_at xs t) shape ∙ get_or-append_seam start (Step i) [] (Step 0) in
         let x = typed_state a items t in
-        let control : (typed_at a x i).control ≡ At d k = ap (λ (y : Alone V P M). y.seat.control) stands in
+        let there : alone_of a x i ≡ standing d m p k c =
+        ap (λ (x : State a). alone_of a x i)
+        (ap (λ xs. typed_state a xs t) shape ∙ state_after start (Step i ∷ [])) ∙ stands in
+        let control : (typed_at a x i).control ≡ At d k = ap (λ (y : Alone V P M). y.seat.control) there in
         let moves : a.move i d x.memory (typed_at a x i).variables k ≡ Answer view =
-        ap (λ (y : Alone V P M). a.move i d y.memory y.seat.variables k) stands ∙ answers in
+        ap (λ (y : Alone V P M). a.move i d y.memory y.seat.variables k) there ∙ answers in
         let out : outcome r (suc t) ≡ Answered view =
         embed.outcome_is a items run.fits run.does t short
         ∙ ap (λ (y : Item). outcome_of (by_item a (suc t) x y)) is
@@ -76,19 +85,5 @@ module _ {V P M : Type 0} (a : Algorithm V P M) where
           view = view;
           finished = finished;
           collects = count_not (ends_double_collect r i) call t (omega arith) none ∙ sym goes.collects ∙ ap
-              (λ (y : Alone V P M). y.seat.collects) stands;
+              (λ (y : Alone V P M). y.seat.collects) there;
         }
-
-    -- a schedule reaches the bound that ends with the step that answers
-    pub reaches : (start : List Item) (i : ℕ) (d : Mode) (k : P) (m : M) (p : V) (c : ℕ) (view : List ℕ) →
-        items ≡ start ++ Step i ∷ [] → IsOneOf a.shape.n i →
-        alone_of a (run_from a 0 (first_state a) start) i ≡ standing d m p k c →
-        a.move i d m p k ≡ Answer view → Reaches c r
-    reaches start i d k m p c view is one stands answers =
-        let t = length start in
-        let size : length items ≡ length start + 1 = ap length is ∙ length-append start (Step i ∷ []) in
-        let last : item_at items t ≡ Step i =
-        ap (λ xs. item_at xs t) is ∙ get_or-append_seam start (Step i) [] (Step 0) in
-        let there : typed_state a items t ≡ run_from a 0 (first_state a) start =
-        ap (λ xs. typed_state a xs t) is ∙ state_after start (Step i ∷ []) in
-        answered t i d k m p c view (omega arith) one last (ap (λ (x : State a). alone_of a x i) there ∙ stands) answers

@@ -1,7 +1,8 @@
 -- For runs that reach the bounds: lists that a process which steps alone fills place by place (`Filled`), tests that
 -- all places pass or one fails, and a row in which one place is counted (`Moved`).
 use Rattle.std.proofs.Common.{◌≡◌, ◌≢◌, ℕ, ◌+◌, ◌-◌, ◌<◌, ◌≤◌, Bool, true, false, List, length, map, Some, None, nat_eq}
-use Rattle.std.proofs.Common.{if◌then◌else◌, slice_index, slice_index_or, slice_set, refl, sym, ◌∙◌, ap, arith, inl, inr}
+use Rattle.std.proofs.Common.{if◌then◌else◌, slice_index, slice_index_or, slice_set, refl, sym, ◌∙◌, ap, arith, inl}
+use Rattle.std.proofs.Common.{inr}
 use Rattle.std.proofs.Math.Nat.{eq-or-lt_of_le}
 use Rattle.std.proofs.lemmas.Bool.{cases_eq, true_from_ne_false, false_from_ne_true}
 use Rattle.std.proofs.lemmas.Grind.{get_or-set_at}

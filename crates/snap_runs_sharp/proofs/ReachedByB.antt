@@ -17,7 +17,7 @@ use Rattle.snap_runs_of_b.proofs.Algorithm.{Registers, Variables, L12, L26, firs
 use Rattle.snap_runs_of_b.proofs.Algorithm.{first_registers, limit, moved_at, lines, algorithm}
 use Rattle.snap_runs_of_b.proofs.Flows.{listed}
 use Rattle.snap_runs_of_b.proofs.Runs.{execution}
-use Rattle.snap_runs_sharp.specs.Reached.{Reaches, IsReachedByB, ScheduleOfBReaches}
+use Rattle.snap_runs_sharp.specs.Reached.{Reaches, ScheduleOfBReaches}
 use Rattle.snap_runs_sharp.specs.Schedules.{others, round_of_b, schedule_of_b}
 use Rattle.snap_runs_sharp.proofs.Items.{turns_round, turns_schedule, steady}
 use Rattle.snap_runs_sharp.proofs.Rounds.{Turned, rounds_reach}
@@ -52,9 +52,8 @@ one_round n r le m p h =
     let ws = slice_set m.words (i - 1) update.0 in
     let m2 : Registers = record { words = ws; q = update.1 } in
     let none_i = h.none i at (omega arith) in
-    let written : word_at ws i ≡ update.0 =
-    get_or-set_at m.words (i - 1) (i - 1) update.0 no_word refl (omega (arith, h.words)) in
-    let toggle : (word_at ws i).toggle ≡ 1 = ap (λ (w : Word). w.toggle) written ∙ update.4 in
+    let toggle : (word_at ws i).toggle ≡ 1 = ap (λ (w : Word). w.toggle)
+    (get_or-set_at m.words (i - 1) (i - 1) update.0 no_word refl (omega (arith, h.words))) ∙ update.4 in
     let kept : (k : ℕ) → IsOneOf n k → k ≢ i → word_at ws k ≡ word_at m.words k =
     λ k k_one other. get_or-set_other m.words (i - 1) (k - 1) update.0 no_word (λ same. other (omega arith)) in
     let failed = fails n i m.words m2 p1 r some refl (omega (arith, h.sized, collect.size_a, collect.size_g))
@@ -111,6 +110,3 @@ schedule_of_b_reaches_lem n counts =
     (λ m p h. let end = clean n 1 Scanning m p (others n) (omega arith) h.first h.sized in
     (record m { q = end.0 }, end.1, end.2))
     (λ m p. refl) (execution n (schedule_of_b n) (fits n (omega arith))) refl)
-
-pub is_reached_by_b_lem : IsReachedByB
-is_reached_by_b_lem n counts = (schedule_of_b n, schedule_of_b_reaches_lem n counts)

@@ -17,11 +17,12 @@ use Rattle.snap_runs.proofs.Places.{for_each, for_each_at}
 use Rattle.snap_runs.proofs.Steady.{Steady}
 use Rattle.snap_runs_of_m.specs.Promises.{counts, run_of}
 use Rattle.snap_runs_of_m.proofs.Algorithm.{Words, Registers, Variables, ProgramCounter, L13, L35, first_word}
-use Rattle.snap_runs_of_m.proofs.Algorithm.{first_variables, first_memory, place, limit, flip, same_words, lines, algorithm}
+use Rattle.snap_runs_of_m.proofs.Algorithm.{first_variables, first_memory, place, limit, flip, same_words, lines}
+use Rattle.snap_runs_of_m.proofs.Algorithm.{algorithm}
 use Rattle.snap_runs_of_m.proofs.Basics.{flip_other}
 use Rattle.snap_runs_of_m.proofs.Flows.{listed}
 use Rattle.snap_runs_of_m.proofs.Runs.{execution}
-use Rattle.snap_runs_sharp.specs.Reached.{Reaches, IsReachedByM, ScheduleOfMReaches}
+use Rattle.snap_runs_sharp.specs.Reached.{Reaches, ScheduleOfMReaches}
 use Rattle.snap_runs_sharp.specs.Schedules.{others, round_with}
 use Rattle.snap_runs_sharp.specs.Schedules.{turn_of_m, round_of_m, schedule_of_m}
 use Rattle.snap_runs_sharp.proofs.Alone.{Seat, seated, standing}
@@ -74,7 +75,6 @@ turns n w i c e m p v at other some h sized differ few_all few =
     let sized1 : Sized n w p1 = omega (arith, h.sized, collect.size_a, collect.size_g) in
     let update = whole_update n w i 1 i m1 v e (omega arith) some (omega arith) (omega arith, some) sized in
     let m2 = update.memory in
-    let count : length m.words ≡ w = h.words in
     let put_is : word_at m2.words 1 ≡ update.put =
     ap (λ (ws : Words). word_at ws 1) update.words_are
     ∙ get_or-set_at m.words (1 - 1) (1 - 1) update.put no_word refl (omega arith) in
@@ -97,7 +97,7 @@ turns n w i c e m p v at other some h sized differ few_all few =
         first_j = failed.2;
         first_k = failed.3;
         sized = failed.4;
-        words = ap length update.words_are ∙ length-set m.words (1 - 1) update.put ∙ count;
+        words = ap length update.words_are ∙ length-set m.words (1 - 1) update.put ∙ h.words;
       };
       sized = update.sized;
       id = id;
@@ -124,7 +124,6 @@ one_round n w r some le m p h =
     let at : IsOneOf n i = (omega arith, omega arith) in
     let v = first_variables n w in
     let none_i : place p.moved i ≡ 0 = h.none i at (omega arith) in
-    let old_id : (word_at m.words 1).id ≤ suc r = h.id in
     let first = turns n w i (2 * r) 0 m p v at (omega arith) some h.keeps (first_sized n w)
     (λ y id toggle. ap (λ b. b && nat_eq (word_at m.words 1).toggle y.toggle)
     (other_number (word_at m.words 1).id y.id (λ is. absurd (omega arith)))) h.few (omega arith) in
@@ -206,6 +205,3 @@ schedule_of_m_reaches_lem n w shape =
     (record m { q = end.0 }, end.1, end.2))
     (λ m p. refl)
     (execution n w (schedule_of_m n w) some (fits n w (omega arith))) refl)
-
-pub is_reached_by_m_lem : IsReachedByM
-is_reached_by_m_lem n w shape = (schedule_of_m n w, schedule_of_m_reaches_lem n w shape)

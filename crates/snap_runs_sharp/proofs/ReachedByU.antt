@@ -19,7 +19,7 @@ use Rattle.snap_runs_of_u.proofs.Algorithm.{limit, moved_at, lines, algorithm}
 use Rattle.snap_runs_of_u.proofs.Flows.{listed}
 use Rattle.snap_runs_of_u.proofs.Ready as suffices
 use Rattle.snap_runs_of_u.proofs.Runs.{execution}
-use Rattle.snap_runs_sharp.specs.Reached.{Reaches, IsReachedByU, ScheduleOfUReaches}
+use Rattle.snap_runs_sharp.specs.Reached.{Reaches, ScheduleOfUReaches}
 use Rattle.snap_runs_sharp.specs.Schedules.{others, schedule}
 use Rattle.snap_runs_sharp.specs.Schedules.{round_of_u, schedule_of_u, scan_alone_of_u}
 use Rattle.snap_runs_sharp.proofs.Items.{turns_round, turns_schedule, round_length, schedule_length, steady}
@@ -55,9 +55,9 @@ one_round n r le m p h =
     let update = whole_update n i i i m (first_variables n) 0 some (first_sized n) in
     let m2 = slice_set m (i - 1) update.0 in
     let none_i = h.none i at (omega arith) in
-    let written : word_at m2 i ≡ update.0 =
-    get_or-set_at m (i - 1) (i - 1) update.0 no_word refl (omega (arith, h.words)) in
-    let seq : seq_at m2 i ≡ 1 = ap (λ (w : Word). w.seq) written ∙ update.3 in
+    let seq : seq_at m2 i ≡ 1 =
+    ap (λ (w : Word). w.seq) (get_or-set_at m (i - 1) (i - 1) update.0 no_word refl (omega (arith, h.words)))
+    ∙ update.3 in
     let kept : (k : ℕ) → IsOneOf n k → k ≢ i → word_at m2 k ≡ word_at m k =
     λ k k_one other. get_or-set_other m (i - 1) (k - 1) update.0 no_word (λ same. other (omega arith)) in
     let failed = fails n i m m2 p1 r some refl (omega (arith, h.sized, collect.2)) collect.3 at
@@ -126,9 +126,6 @@ pub schedule_of_u_reaches_lem : ScheduleOfUReaches
 schedule_of_u_reaches_lem n counts =
     subst (λ bound. Reaches bound (run_of n (schedule_of_u n))) (let all : suc (others n) ≡ n = omega arith in all)
     (reaching n (others n) (round_of_u n) (omega arith) (one_round n) (fits n (omega arith) (omega arith)))
-
-pub is_reached_by_u_lem : IsReachedByU
-is_reached_by_u_lem n counts = (schedule_of_u n, schedule_of_u_reaches_lem n counts)
 
 -- the scan alone
 fits_alone : (n : ℕ) → 1 ≤ n → n ≤ max_count → suffices.Ready n (scan_alone_of_u n)

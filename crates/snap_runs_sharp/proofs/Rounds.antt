@@ -1,5 +1,5 @@
--- A schedule of rounds: after each of them the scan is about to begin a double collect, and after the last one it passes
--- its test and answers.
+-- A schedule of rounds: after each of them the scan is about to begin a double collect,
+-- and after the last one it passes its test and answers.
 use Rattle.std.proofs.Common.{◌≡◌, ℕ, suc, ◌+◌, ◌<◌, ◌≤◌, List, ◌∷◌, arith}
 use Rattle.snap_runs.proofs.Common.{IsOneOf, Item, Call, Scan}
 use Rattle.snap_runs.proofs.Algorithm.{Scanning, Answer, Algorithm, first_state}

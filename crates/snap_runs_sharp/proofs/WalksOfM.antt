@@ -10,17 +10,14 @@ use Rattle.snap_runs.proofs.Algorithm.{Mode, Scanning, Embedded, Updating}
 use Rattle.snap_runs.proofs.Computing.{lt_true, lt_false, same_number}
 use Rattle.snap_runs.proofs.Held.{word_at}
 use Rattle.snap_runs.proofs.Places.{for_each, for_each_at}
-use Rattle.snap_runs_of_m.proofs.Algorithm.{Words, Bits, Registers, Variables, ProgramCounter, L13, L17, L19, L21}
+use Rattle.snap_runs_of_m.proofs.Algorithm.{Words, Bits, Registers, Variables, L13, L17, L19, L21}
 use Rattle.snap_runs_of_m.proofs.Algorithm.{L24, L26, L29, L30, L35, L50, L51, L54, plain, place, bit, with_bit, flip}
 use Rattle.snap_runs_of_m.proofs.Algorithm.{same_words, same_at, limit, marked, counted, written, after_52}
 use Rattle.snap_runs_of_m.proofs.Algorithm.{after_55, after_57, algorithm}
 use Rattle.snap_runs_of_m.proofs.Basics.{row_elsewhere, set_here}
-use Rattle.snap_runs_sharp.proofs.Alone.{Alone, standing, idling, walk, walks}
+use Rattle.snap_runs_sharp.proofs.Alone.{standing, idling, walk, walks}
 use Rattle.snap_runs_sharp.proofs.Filling.{Filled, all_hold, one_fails, Moved, one_moves}
 use Rattle.snap_runs_sharp.proofs.Loops.{fill, Collected, collect}
-
-abbrev pub Standing : Type 0
-Standing = Alone Variables ProgramCounter Registers
 
 -- the rows and the copies of a process are long enough
 pub record Sized (n w : ℕ) (p : Variables) : Type 0 where
@@ -145,10 +142,6 @@ pub record Compared (n w me : ℕ) (d : Mode) (m : Registers) (p : Variables) (c
   pub copies : Filled (word_at m.words) no_word (w + 1) b
   pub marked_if : (e : ℕ) → IsOneOf n e → place marks e ≡ symbol_of (bit m.p e me) (place p.g e)
 
-length_each : (n : ℕ) (f : ℕ → ℕ) (old : List ℕ) → n ≤ length (for_each n f old)
-length_each n f old =
-    omega (arith, length-append (map f (places_to n)) (drop n old), length-map-range_with_len f 1 n)
-
 pub second_collect : (n w me : ℕ) (d : Mode) (m : Registers) (p : Variables) (c : ℕ) → 1 ≤ n → 1 ≤ w → p.j ≡ 1 →
     p.k ≡ 1 → Sized n w p → Compared n w me d m p c
 second_collect n w me d m p c some words first_j first_k sized =
@@ -171,7 +164,12 @@ second_collect n w me d m p c some words first_j first_k sized =
       walked = walks (algorithm n w) me (3 * n + 2 * w) 2 (3 * n + 2 * w + 2) start both two refl;
       size_h = late.3;
       size_b = copies.2;
-      size_marks = length_each n (marked p3) zeros;
+      size_marks =
+          omega (
+            arith,
+            length-append (map (marked p3) (places_to n)) (drop n zeros),
+            length-map-range_with_len (marked p3) 1 n,
+          );
       copies = copies.3;
       marked_if = λ e one.
           for_each_at n (marked p3) zeros e one
@@ -344,11 +342,10 @@ whole_update n w me word value m p c some words mine of_word sized =
     let v2 : Variables = record v { tog = toggles } in
     let m3 = after_55 me m2 v in
     let x = written me u m3 v2 in
-    let done : Standing = idling (after_57 me u m3 v2) v2 1 in
     let start = standing u m p L50 c in
     let enters : walk (algorithm n w) me 1 start ≡ standing u m p0 L51 c = refl in
     let begins : walk (algorithm n w) me 4 (standing u m1 p1 L54 c) ≡ standing d m1 p2 L13 0 = refl in
-    let ends : walk (algorithm n w) me 5 (standing d m2 v L35 1) ≡ done = refl in
+    let ends : walk (algorithm n w) me 5 (standing d m2 v L35 1) ≡ idling (after_57 me u m3 v2) v2 1 = refl in
     let shaken = walks (algorithm n w) me 1 (3 * suc (n - 1)) (3 * n + 1) start enters answers.2 (omega arith) in
     let called = walks (algorithm n w) me (3 * n + 1) 4 (3 * n + 5) start shaken begins (omega arith) in
     let scanned =

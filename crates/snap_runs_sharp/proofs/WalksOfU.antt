@@ -2,18 +2,15 @@
 use Rattle.std.proofs.Common.{◌≡◌, ◌≢◌, ℕ, suc, ◌+◌, ◌*◌, ◌-◌, ◌<◌, ◌≤◌, true, false, not, length, map, take, nat_eq}
 use Rattle.std.proofs.Common.{slice_set, refl, ◌∙◌, ap, arith}
 use Rattle.snap_runs.proofs.Common.{IsOneOf, Word, no_word}
-use Rattle.snap_runs.proofs.Algorithm.{Mode, Scanning, Embedded, Updating}
+use Rattle.snap_runs.proofs.Algorithm.{Mode, Scanning, Embedded, Updating, Idle}
 use Rattle.snap_runs.proofs.Computing.{lt_true, lt_false, other_number, same_number}
 use Rattle.snap_runs.proofs.Held.{word_at, seq_at}
 use Rattle.snap_runs.proofs.Places.{for_each}
 use Rattle.snap_runs_of_u.proofs.Algorithm.{Words, Variables, ProgramCounter, L12, L14, L16, L22, L30}
 use Rattle.snap_runs_of_u.proofs.Algorithm.{agree, limit, moved_at, counted, word_put, algorithm}
-use Rattle.snap_runs_sharp.proofs.Alone.{Seat, Alone, placed, standing, idling, walk, walks}
+use Rattle.snap_runs_sharp.proofs.Alone.{Seat, seated, placed, standing, walk, walks}
 use Rattle.snap_runs_sharp.proofs.Filling.{Filled, all_hold, one_fails, Moved, one_moves}
 use Rattle.snap_runs_sharp.proofs.Loops.{Collected, collect}
-
-abbrev pub Standing : Type 0
-Standing = Alone Variables ProgramCounter Words
 
 -- the copies of a process are long enough
 pub record Sized (n : ℕ) (p : Variables) : Type 0 where
@@ -45,7 +42,8 @@ compares n k m m' p one a b = cc (a k (omega arith) (omega arith), b k (omega ar
 
 -- a double collect alone passes its test, and its view is made
 pub clean : (n me : ℕ) (d : Mode) (m : Words) (p : Variables) (c : ℕ) → 1 ≤ n → p.j ≡ 1 → Sized n p →
-    (q : Variables) × (walk (algorithm n) me (4 * n + 2) (standing d m p L12 c) ≡ standing d m q L22 (suc c)) × (q.c ≡ p.c)
+    (q : Variables)
+    × (walk (algorithm n) me (4 * n + 2) (standing d m p L12 c) ≡ standing d m q L22 (suc c)) × (q.c ≡ p.c)
 clean n me d m p c some first sized =
     let one = first_collect n me d m p c some first sized in
     let p1 : Variables = record p { j = 1; a = one.0 } in
@@ -70,13 +68,13 @@ whole_update n me word value m p c some sized =
     let view = clean n me d m p1 0 some refl (omega (arith, sized)) in
     let p2 : Variables = record view.0 { c = view.0.c + 1 } in
     let x = word_put u p2 in
-    let done : Standing = idling (slice_set m (me - 1) x) p2 1 in
+    let seat : Seat Variables ProgramCounter = seated Idle p2 1 in
     let start = standing u m p L30 c in
     let begins : walk (algorithm n) me 3 start ≡ standing d m p1 L12 0 = refl in
-    let ends : walk (algorithm n) me 4 (standing d m view.0 L22 1) ≡ done = refl in
+    let ends : walk (algorithm n) me 4 (standing d m view.0 L22 1) ≡ placed (slice_set m (me - 1) x) seat = refl in
     let both = walks (algorithm n) me 3 (4 * n + 2) (4 * n + 5) start begins view.1 (omega arith) in (
       x,
-      done.seat,
+      seat,
       walks (algorithm n) me (4 * n + 5) 4 (4 * n + 9) start both ends (omega arith),
       ap (λ y. y + 1) view.2,
     )

@@ -1,7 +1,7 @@
 -- A worked linearization of a run of listing U: process 2 updates twice while process 1 scans, and the scan borrows
 -- the view of the second update.
 use Rattle.std.proofs.Common.{◌≡◌, ◌⊎◌, ℕ, ◌<◌, ◌≤◌, Bool, true, false, List, [], ◌∷◌, ◌++◌, Option, Some, None}
-use Rattle.std.proofs.Common.{replicate, refl, sym, ap, subst, arith, inl, inr}
+use Rattle.std.proofs.Common.{length, nat_le, refl, ◌∙◌, sym, ap, subst, arith, inl, inr}
 use Rattle.std.specs.List.{Contains}
 use Rattle.std.proofs.lemmas.Bool.{cases_eq, cases_lt}
 use Rattle.std.proofs.lemmas.List.Elements.{All-from_recursion}
@@ -14,14 +14,10 @@ use Rattle.snap_runs.proofs.OneOperation.{has_call, one_operation}
 use Rattle.snap_runs.proofs.Order.{Pairs, Apart, all_pairs, keeps_order}
 use Rattle.snap_runs.proofs.Worked.{finished_scan, finished_update, one_of_three}
 use Rattle.snap_runs_of_u.specs.Promises.{run_of}
-
-abbrev pub times : ℕ → ℕ → List Item
-times count i = replicate count (Step i)
+use Rattle.snap_single.proofs.Samples.{scan_borrows}
 
 abbrev pub run : Run
-run =
-    run_of 2 (Call 1 Scan ∷ (times 6 1 ++ (Call 2 (Update 2 5)
-    ∷ (times 17 2 ++ (times 8 1 ++ (times 4 1 ++ (Call 2 (Update 2 6) ∷ (times 17 2 ++ times 9 1))))))))
+run = run_of 2 scan_borrows
 
 -- the operations of the run, with their items
 abbrev pub scan : Operation
@@ -60,29 +56,29 @@ linearized = first_update ∷ scan ∷ second_update ∷ []
 linearized_runs : RunsFrom (0 ∷ 0 ∷ []) linearized
 linearized_runs = ((omega arith, omega arith), (refl, ((omega arith, omega arith), tt)))
 
-pub not_before : (c e : ℕ) (first second : Operation) → first.end ≡ Some e → second.call ≡ c →
-    c ≤ e → EndedBefore first second → ⊥
-not_before c e first second ends calls le ended =
-    let same : e ≡ ended.0 = (let both : ◌≡◌ {A = Option ℕ} (Some e) (Some ended.0) = cc in cc) in
-    let lt : ended.0 < second.call = ended.2 in omega arith
+-- an operation with this end has not ended before item c
+abbrev pub goes_past : ℕ → Option ℕ → Bool
+goes_past c None = true
+goes_past c (Some e) = nat_le c e
+
+pub not_before : (first second : Operation) → goes_past second.call first.end ≡ true → EndedBefore first second → ⊥
+not_before first second late ended =
+    let past : nat_le second.call ended.0 ≡ true = sym (ap (goes_past second.call) ended.1) ∙ late in grind arith
 
 apart : Pairs Apart linearized
 apart = (
   (
-    (λ same. omega arith, not_before 8 64 scan first_update refl refl (omega arith)),
-    ((λ same. omega arith, not_before 8 55 second_update first_update refl refl (omega arith)), tt),
+    (λ same. omega arith, not_before scan first_update refl),
+    ((λ same. omega arith, not_before second_update first_update refl), tt),
   ),
-  (((λ same. omega arith, not_before 1 55 second_update scan refl refl (omega arith)), tt), (tt, tt)),
+  (((λ same. omega arith, not_before second_update scan refl), tt), (tt, tt)),
 )
 
 linearized_in_order : KeepsOrder linearized
 linearized_in_order =
     keeps_order linearized (
-      not_before 8 25 first_update first_update refl refl (omega arith),
-      (
-        not_before 1 64 scan scan refl refl (omega arith),
-        (not_before 38 55 second_update second_update refl refl (omega arith), tt),
-      ),
+      not_before first_update first_update refl,
+      (not_before scan scan refl, (not_before second_update second_update refl, tt)),
     )
     apart
 
@@ -103,29 +99,30 @@ before_both h =
 call_at : (c : ℕ) → 0 < c → c ≤ 64 → is_call (item run c) ≡ true → (c ≡ 1) ⊎ ((c ≡ 8) ⊎ (c ≡ 38))
 call_at c pos le call = one_of_three (λ t. is_call (item run t)) 0 7 37 64 c refl refl refl refl pos le call
 
-contains_first : Contains linearized first_update
-contains_first = (0, omega arith, refl)
+-- In a run with three calls there are three operations.
+pub one_of_three_operations : (r : Run) (x y z : Operation) → IsOperation r x → IsOperation r y → IsOperation r z →
+    ((c : ℕ) → 0 < c → c ≤ length r.items → is_call (item r c) ≡ true →
+    (c ≡ x.call) ⊎ ((c ≡ y.call) ⊎ (c ≡ z.call))) →
+    (o : Operation) → IsOperation r o → (o ≡ x) ⊎ ((o ≡ y) ⊎ (o ≡ z))
+one_of_three_operations r x y z is_x is_y is_z calls o took =
+    let called = has_call r o took in
+    elim (calls o.call called.first called.last (ap is_call called.is)) [
+      | inl is ↦ inl (one_operation r o x took is_x is)
+      | inr more ↦ elim more [
+        | inl is ↦ inr (inl (one_operation r o y took is_y is))
+        | inr is ↦ inr (inr (one_operation r o z took is_z is))
+      ]
+    ]
 
-contains_scan : Contains linearized scan
-contains_scan = (1, omega arith, refl)
-
-contains_second : Contains linearized second_update
-contains_second = (2, omega arith, refl)
+contains_each : (o : Operation) → (o ≡ scan) ⊎ ((o ≡ first_update) ⊎ (o ≡ second_update)) → Contains linearized o
+contains_each o (inl is) = subst (Contains linearized) (sym is) (1, omega arith, refl)
+contains_each o (inr (inl is)) = subst (Contains linearized) (sym is) (0, omega arith, refl)
+contains_each o (inr (inr is)) = subst (Contains linearized) (sym is) (2, omega arith, refl)
 
 pub contains : (o : Operation) → IsOperation run o → Contains linearized o
 contains o took =
-    let called = has_call run o took in
-    elim (call_at o.call called.first called.last (ap is_call called.is)) [
-      | inl is ↦ subst (Contains linearized) (sym (one_operation run o scan took scan_took_place is)) contains_scan
-      | inr rest ↦ elim rest [
-        | inl is ↦
-            subst (Contains linearized)
-            (sym (one_operation run o first_update took first_update_took_place is)) contains_first
-        | inr is ↦
-            subst (Contains linearized)
-            (sym (one_operation run o second_update took second_update_took_place is)) contains_second
-      ]
-    ]
+    contains_each o (one_of_three_operations run scan first_update second_update scan_took_place first_update_took_place
+    second_update_took_place call_at o took)
 
 -- The list is a linearization of the run.
 pub is_linearization : IsLinearization run linearized

@@ -13,7 +13,8 @@ use Rattle.snap_runs.proofs.Placing.{non_decreasing}
 use Rattle.snap_runs.proofs.Worked as worked
 use Rattle.snap_runs.proofs.Worked.{none_ended, takes_place}
 use Rattle.snap_runs_of_u.specs.Promises.{run_of}
-use Rattle.snap_single.proofs.LinearSample.{times, run, scan, first_update, second_update, linearized}
+use Rattle.snap_single.proofs.Samples.{times}
+use Rattle.snap_single.proofs.LinearSample.{run, scan, first_update, second_update, linearized}
 use Rattle.snap_single.proofs.LinearSample.{contains, is_linearization}
 
 -- The updates take place at their writes, items 24 and 54; the scan may at each item from 24
@@ -21,22 +22,17 @@ use Rattle.snap_single.proofs.LinearSample.{contains, is_linearization}
 abbrev places : List ℕ
 places = 24 ∷ 24 ∷ 54 ∷ []
 
-first_place : TakesPlaceAt 32 run first_update 24
-first_place =
-    takes_place run 32 first_update 25 24 refl (omega arith) (omega arith) (omega arith) (omega arith, refl)
-
-scan_place : TakesPlaceAt 32 run scan 24
-scan_place = takes_place run 32 scan 64 24 refl (omega arith) (omega arith) (omega arith) refl
+each_place : AllZip (TakesPlaceAt 32 run) linearized places
+each_place = (
+  takes_place run 32 first_update 25 24 refl (omega arith) (omega arith) (omega arith) (omega arith, refl),
+  (
+    takes_place run 32 scan 64 24 refl (omega arith) (omega arith) (omega arith) refl,
+    (takes_place run 32 second_update 55 54 refl (omega arith) (omega arith) (omega arith) (omega arith, refl), tt),
+  ),
+)
 
 later_place : TakesPlaceAt 32 run scan 53
 later_place = takes_place run 32 scan 64 53 refl (omega arith) (omega arith) (omega arith) refl
-
-second_place : TakesPlaceAt 32 run second_update 54
-second_place =
-    takes_place run 32 second_update 55 54 refl (omega arith) (omega arith) (omega arith) (omega arith, refl)
-
-each_place : AllZip (TakesPlaceAt 32 run) linearized places
-each_place = (first_place, (scan_place, (second_place, tt)))
 
 -- no number is below the one before it
 pub rising : (a b c : ℕ) → a ≤ b → b ≤ c → IsNonDecreasing (a ∷ b ∷ c ∷ [])

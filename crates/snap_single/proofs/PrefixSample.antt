@@ -5,6 +5,8 @@ use Rattle.std.proofs.Common.{Option, Some, None, refl, sym, ◌∙◌, ap, subs
 use Rattle.std.specs.List.{AllByRecursion, AllZip, Contains}
 use Rattle.std.proofs.lemmas.Bool.{cases_eq, cases_lt}
 use Rattle.std.proofs.lemmas.List.Elements.{All-contains, All-from_recursion, recursion_from_All}
+use Rattle.std.proofs.lemmas.List.Sums.{AllPass-from_list_all}
+use Rattle.snap_words.specs.Shape.{is_place}
 use Rattle.snap_runs.proofs.Common.{Item, Call, Scan, Update, Outcome, Called, Finished, who, IsOneOf, Run, IsValidRun}
 use Rattle.snap_runs.proofs.Common.{item, outcome}
 use Rattle.snap_runs.specs.Linearization.{after, Allows, RunsFrom, IsLinearization}
@@ -17,7 +19,8 @@ use Rattle.snap_runs.proofs.Worked.{finished_scan, finished_update, open_update,
 use Rattle.snap_runs.proofs.Worked.{takes_place}
 use Rattle.snap_runs_of_u.specs.ListingU.{listing_u}
 use Rattle.snap_runs_of_u.specs.Promises.{run_of, square}
-use Rattle.snap_single.proofs.LinearSample.{times, linearized, is_call, not_before}
+use Rattle.snap_single.proofs.Samples.{times}
+use Rattle.snap_single.proofs.LinearSample.{linearized, is_call, not_before, one_of_three_operations}
 use Rattle.snap_single.proofs.PlacementSample as placement
 use Rattle.snap_single.proofs.PlacementSample.{rising}
 
@@ -64,17 +67,14 @@ listed_both = record {
   once = λ i j d lt less. (all_pairs Apart (open_first ∷ open_second ∷ []) both_apart i j d lt less).0;
   complete = none_ended short refl (open_first ∷ open_second ∷ []);
   order = keeps_order (open_first ∷ open_second ∷ []) (
-    not_ended open_first open_first refl,
-    (not_ended open_second open_second refl, tt),
+    not_before open_first open_first refl,
+    (not_before open_second open_second refl, tt),
   ) both_apart;
   runs = ((omega arith, omega arith), ((omega arith, omega arith), tt));
 }
   where
-    not_ended : (o p : Operation) → o.end ≡ None → EndedBefore o p → ⊥
-    not_ended o p is ended = let both : ◌≡◌ {A = Option ℕ} None (Some ended.0) = sym is ∙ ended.1 in cc
-
     both_apart : Pairs Apart (open_first ∷ open_second ∷ [])
-    both_apart = (((λ same. omega arith, not_ended open_second open_first refl), tt), (tt, tt))
+    both_apart = (((λ same. omega arith, not_before open_second open_first refl), tt), (tt, tt))
 
 -- the operations of the longer run
 first_took_place : IsOperation long first
@@ -100,15 +100,7 @@ abbrev IsOneOfThem : Operation → Type 0
 IsOneOfThem o = (o ≡ first) ⊎ ((o ≡ second) ⊎ (o ≡ scan))
 
 one_of_them : (o : Operation) → IsOperation long o → IsOneOfThem o
-one_of_them o took =
-    let called = has_call long o took in
-    elim (call_at o.call called.first called.last (ap is_call called.is)) [
-      | inl is ↦ inl (one_operation long o first took first_took_place is)
-      | inr more ↦ elim more [
-        | inl is ↦ inr (inl (one_operation long o second took second_took_place is))
-        | inr is ↦ inr (inr (one_operation long o scan took scan_took_place is))
-      ]
-    ]
+one_of_them = one_of_three_operations long first second scan first_took_place second_took_place scan_took_place call_at
 
 -- The operations take place in this order.
 abbrev linear : List Operation
@@ -117,10 +109,10 @@ linear = second ∷ scan ∷ first ∷ []
 linear_apart : Pairs Apart linear
 linear_apart = (
   (
-    (λ same. omega arith, not_before 2 33 scan second refl refl (omega arith)),
-    ((λ same. omega arith, not_before 2 50 first second refl refl (omega arith)), tt),
+    (λ same. omega arith, not_before scan second refl),
+    ((λ same. omega arith, not_before first second refl), tt),
   ),
-  (((λ same. omega arith, not_before 20 50 first scan refl refl (omega arith)), tt), (tt, tt)),
+  (((λ same. omega arith, not_before first scan refl), tt), (tt, tt)),
 )
 
 contains : (o : Operation) → IsOneOfThem o → Contains linear o
@@ -135,8 +127,8 @@ linearizes = record {
   once = λ i j d lt less. (all_pairs Apart linear linear_apart i j d lt less).0;
   complete = λ o took ended. contains o (one_of_them o took);
   order = keeps_order linear (
-    not_before 2 19 second second refl refl (omega arith),
-    (not_before 20 33 scan scan refl refl (omega arith), (not_before 1 50 first first refl refl (omega arith), tt)),
+    not_before second second refl,
+    (not_before scan scan refl, (not_before first first refl, tt)),
   )
       linear_apart;
   runs = ((omega arith, omega arith), (refl, ((omega arith, omega arith), tt)));
@@ -218,29 +210,11 @@ too_soon (o ∷ os) h prefix =
     All-contains (IsNot scan) (o ∷ os) scan (All-from_recursion (IsNot scan) (o ∷ os) none)
     (h.complete scan scan_took_place (33, refl)) refl
 
--- the items are of the two processes
-each_times : (n i : ℕ) → IsOneOf 2 i → AllByRecursion (λ x. IsOneOf 2 (who x)) (times n i)
-each_times zero i one = tt
-each_times (suc n) i one = (one, each_times n i one)
-
-each_append : (xs ys : List Item) → AllByRecursion (λ x. IsOneOf 2 (who x)) xs →
-    AllByRecursion (λ x. IsOneOf 2 (who x)) ys → AllByRecursion (λ x. IsOneOf 2 (who x)) (xs ++ ys)
-each_append [] ys h k = k
-each_append (x ∷ xs) ys h k = (h.0, each_append xs ys h.1 k)
-
+-- the items are of the two processes, by a test of each
 long_fits : IsValidRun long
 long_fits = record {
-  all = (
-    (omega arith, omega arith),
-    (
-      (omega arith, omega arith),
-      each_append (times 17 2) (Call 2 Scan ∷ (times 13 2 ++ times 17 1)) (each_times 17 2 (omega arith, omega arith)) (
-        (omega arith, omega arith),
-        each_append (times 13 2) (times 17 1) (each_times 13 2 (omega arith, omega arith))
-            (each_times 17 1 (omega arith, omega arith)),
-      ),
-    ),
-  );
+  all = recursion_from_All (λ x. IsOneOf 2 (who x)) long.items (λ k d lt.
+      let one = AllPass-from_list_all (λ x. is_place 2 (who x)) long.items refl k d lt in grind arith);
 }
 
 -- A choice that lists both as soon as they are called is not write strong. This is why an update is

@@ -1,6 +1,7 @@
 -- The operations of the listing of one word in the order of their first steps are a linearization of each of its runs.
 use Rattle.std.proofs.Common.{◌≡◌, ◌≢◌, ℕ, zero, suc, ◌-◌, ◌<◌, ◌≤◌, max, List, [], ◌∷◌, ◌++◌, map}
-use Rattle.std.proofs.Common.{slice_index_or, length, Option, Some, None, nat_eq, replicate, refl, sym, ◌∙◌, ap, subst, arith, inl, inr}
+use Rattle.std.proofs.Common.{slice_index_or, length, Option, Some, None, nat_eq, replicate, refl, sym, ◌∙◌, ap, subst}
+use Rattle.std.proofs.Common.{arith, inl, inr}
 use Rattle.std.specs.List.{All, Contains}
 use Rattle.std.proofs.Math.Nat.{eq-or-lt_of_le}
 use Rattle.std.proofs.lemmas.Bool.{cases_eq}
@@ -28,10 +29,9 @@ use Rattle.snap_strong.specs.OneWord.{one_word, shared_by}
 use Rattle.snap_strong.proofs.OneWordItems.{booked, process, Stage, idle, stage_map}
 use Rattle.snap_strong.proofs.OneWordItems.{Leaves, Quiet, Begins, Closes, item_does}
 use Rattle.snap_strong.proofs.Placed.{op_of, outcome_of, ends_so, ends_is_end, same_action, end_at, ended}
-use Rattle.snap_strong.proofs.Placed.{not_ended_before, ended_now, ended_once, GoesOn, EndUpTo, Placed, placed_longer, placed_closed}
-use Rattle.snap_strong.proofs.Placed.{ended_at, placed_shorter, not_before_itself, completed, placed}
-use Rattle.snap_strong.proofs.Placed.{Contains-map, pairs_ended, RunsTo}
-use Rattle.snap_strong.proofs.Placed.{starts_from, runs_ended, segments_more}
+use Rattle.snap_strong.proofs.Placed.{not_ended_before, ended_now, ended_once, GoesOn, EndUpTo, Placed, placed_longer}
+use Rattle.snap_strong.proofs.Placed.{placed_closed, ended_at, placed_shorter, not_before_itself, completed, placed}
+use Rattle.snap_strong.proofs.Placed.{Contains-map, pairs_ended, RunsTo, starts_from, runs_ended, segments_more}
 
 -- the operations that have taken place up to item t + 1, where these have up to item t
 abbrev pub booked_at : Run → ℕ → List Operation → List Operation
@@ -335,10 +335,7 @@ module _ (n : ℕ) (items : List Item) (fits : IsValidRun (run_of_items one_word
         elim (item_does n (Free i os) (Took i os) S b.word b.word_is (item r (suc t)) there (b.stages i one)) [
           | inl q ↦ subst (Book (suc t)) (sym (q.booked_is (last_call r i t) (suc t) (values S) os)) (quiet os b q)
           | inr more ↦ elim more [
-            | inl q ↦ subst (Book (suc t))
-                (sym (ap (λ now.
-                booked i (last_call r i t) (suc t) now (outcome_at r (suc t)) (process_at S i).status os) S_values
-                ∙ q.booked_is (last_call r i t) (suc t) os))
+            | inl q ↦ subst (Book (suc t)) (sym (q.booked_is (last_call r i t) (suc t) (values S) os S_values))
                 (begins os b q)
             | inr q ↦ subst (Book (suc t)) (sym (q.booked_is (last_call r i t) (suc t) (values S) os)) (closes os b q)
           ]

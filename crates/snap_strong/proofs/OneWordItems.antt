@@ -85,20 +85,13 @@ pub record Leaves (S S' : State) (i : ℕ) (y : Word) (p : Process) : Type 0 whe
   pub others : (j : ℕ) → 0 < j → j ≢ i → process_at S' j ≡ process_at S j
 
 module _ (S : State) (i : ℕ) (y : Word) (word : S.memory.words ≡ y ∷ []) (one : IsOneOf (length S.processes) i) where
-  leaves_as_was : Leaves S S i y (process_at S i)
-  leaves_as_was = record { word = word; count = refl; own = refl; others = λ j pos other. refl }
-
   leaves_put : (m : Memory) (z : Word) (p : Process) → m.words ≡ z ∷ [] →
       Leaves S (record { memory = m; processes = slice_set S.processes (i - 1) p }) i z p
   leaves_put m z p is = record {
     word = is;
     count = length-set S.processes (i - 1) p;
-    own =
-        get_or-set_same S.processes (i - 1) p nobody
-        (let pos : 0 < i = one.0 in omega arith);
-    others =
-        λ j pos other. get_or-set_other S.processes (i - 1) (j - 1) p nobody
-        (λ same. other (omega arith));
+    own = get_or-set_same S.processes (i - 1) p nobody (omega arith);
+    others = λ j pos other. get_or-set_other S.processes (i - 1) (j - 1) p nobody (λ same. other (omega arith));
   }
 
 -- An item that no operation begins or ends with.
@@ -121,9 +114,8 @@ pub record Begins (F : Type 0) (S : State) (i : ℕ) (y : Word) (status : Status
   pub line : ℕ
   pub busy : status ≡ at_line (op_of action) line
   pub stepped : d.1 ≡ outcome.Stepped
-  pub booked_is : (c e : ℕ) (os : List Operation) →
-      booked i c e (y.datum ∷ []) d.1 status os
-      ≡ os ++ record { process = i; call = c; end = None; action = action } ∷ []
+  pub booked_is : (c e : ℕ) (now : List ℕ) (os : List Operation) → now ≡ y.datum ∷ [] →
+      booked i c e now d.1 status os ≡ os ++ record { process = i; call = c; end = None; action = action } ∷ []
   pub allows : Allows (y.datum ∷ []) action
   pub after_is : word.datum ∷ [] ≡ after (y.datum ∷ []) action
 
@@ -150,15 +142,18 @@ module _ (n : ℕ) (F : Type 0) (T : Action → Type 0) (S : State) (i : ℕ) (y
   skips p why is stage = inl (record {
     process = p;
     stage = stage;
-    leaves = subst (Leaves S S i y) is (leaves_as_was S i y word one);
+    leaves = record { word = word; count = refl; own = is; others = λ j pos other. refl };
     booked_is = λ c e now os. refl;
     no_end = λ ends. ends;
   })
 
+  abbrev put : Memory → Process → State
+  put m p = record { memory = m; processes = slice_set S.processes (i - 1) p }
+
   -- an item that leaves its process so
   goes_on : (p : Process) (old : Status) (out : Outcome) → Stage F T p → (IsEnd out → ⊥) →
       ((c e : ℕ) (now : List ℕ) (os : List Operation) → booked i c e now out old os ≡ os) →
-      Case F T S i y old (record { memory = S.memory; processes = slice_set S.processes (i - 1) p }, out)
+      Case F T S i y old (put S.memory p, out)
   goes_on p old out stage no_end same = inl (record {
     process = p;
     stage = stage;
@@ -171,13 +166,7 @@ module _ (n : ℕ) (F : Type 0) (T : Action → Type 0) (S : State) (i : ℕ) (y
   comes_to_end : (x : Word) (xs : List Word) (v : List ℕ) (b : Action) (old : Status) → T b →
       ((c e : ℕ) (now : List ℕ) (os : List Operation) →
       booked i c e now (outcome_of b) old os ≡ map (ended i e) os) →
-      Case F T S i y old (
-        record {
-          memory = S.memory;
-          processes = slice_set S.processes (i - 1) (process Idle x xs v);
-        },
-        outcome_of b,
-      )
+      Case F T S i y old (put S.memory (process Idle x xs v), outcome_of b)
   comes_to_end x xs v b old took same = inr (inr (record {
     action = b;
     took = took;
@@ -201,9 +190,6 @@ module _ (n : ℕ) (F : Type 0) (T : Action → Type 0) (S : State) (i : ℕ) (y
 
   abbrev written : ℕ → Word
   written value = record { datum = value; seq = 0; id = i; toggle = 0; handshakes = []; view = [] }
-
-  abbrev put : Memory → Process → State
-  put m p = record { memory = m; processes = slice_set S.processes (i - 1) p }
 
   -- a scan's first step, as it stands
   abbrev reading : Activity
@@ -232,7 +218,7 @@ module _ (n : ℕ) (F : Type 0) (T : Action → Type 0) (S : State) (i : ℕ) (y
         line = 10;
         busy = refl;
         stepped = refl;
-        booked_is = λ c e os. refl;
+        booked_is = λ c e now os is. rw is refl;
         allows = refl;
         after_is = refl;
       })))
@@ -254,7 +240,7 @@ module _ (n : ℕ) (F : Type 0) (T : Action → Type 0) (S : State) (i : ℕ) (y
     line = 20;
     busy = refl;
     stepped = refl;
-    booked_is = λ c e os. refl;
+    booked_is = λ c e now os is. refl;
     allows = (omega arith, omega arith);
     after_is = refl;
   }))
@@ -297,8 +283,8 @@ module _ (n : ℕ) (F : Type 0) (T : Action → Type 0) (S : State) (i : ℕ) (y
   crashes p is (crashed was l) = skips p reason.Crashed is (crashed was l)
   crashes p is stage = stops p (Some _) p.status
 
-pub item_does : (n : ℕ) (F : Type 0) (T : Action → Type 0) (S : State) (y : Word) → S.memory.words ≡ y ∷ [] → (x : Item) →
-    IsOneOf (length S.processes) (who x) → Stage F T (process_at S (who x)) →
+pub item_does : (n : ℕ) (F : Type 0) (T : Action → Type 0) (S : State) (y : Word) → S.memory.words ≡ y ∷ [] →
+    (x : Item) → IsOneOf (length S.processes) (who x) → Stage F T (process_at S (who x)) →
     Case F T S (who x) y (process_at S (who x)).status (done one_word (shared_by n) S x)
 item_does n F T S y word (Step i) one stage = steps n F T S i y word one (process_at S i) refl stage
 item_does n F T S y word (Call i op) one stage = is_called n F T S i y word one (process_at S i) op refl stage

@@ -72,13 +72,6 @@ module _ {V P M : Type 0} (a : Algorithm V P M) where
       }
 
   module _ (one : IsOneOf a.shape.n 1) where
-    first_scene : Scene 1 (idling a.first_memory a.first_variables 0) (first_state a)
-    first_scene = record {
-      count = embed.count a [] 0;
-      lead = ap (λ (q : TypedProcess V P M). placed a.first_memory (seat_of q)) (embed.first_process_is a 1 one);
-      fresh = λ k at more. ap seat_of (embed.first_process_is a k at);
-    }
-
     -- process 1 takes steps
     pub lead_walks : (r s : ℕ) (y z : Alone V P M) → 1 ≤ r → walk a 1 s y ≡ z →
         Leads (Scene r y) (steps_of 1 s) (Scene r z)
@@ -98,18 +91,6 @@ module _ {V P M : Type 0} (a : Algorithm V P M) where
         record {
           scene = lead_walks r s y z (omega arith) goes time x h.scene;
           seat = ap seat_of (after.0.others i at (λ same. absurd (omega arith))) ∙ h.seat;
-        }
-
-    -- process 1 is called for a scan
-    lead_calls : (r : ℕ) (m : M) (p : V) (c : ℕ) → 1 ≤ r →
-        Leads (Scene r (idling m p c)) (Call 1 Scan ∷ []) (Scene r (standing Scanning m p (a.counter Scan) 0))
-    lead_calls r m p c le time x h =
-        let idle : (typed_at a x 1).control ≡ Idle = ap (λ (y : Alone V P M). y.seat.control) h.lead in
-        let after = call_alone a 1 one time x Scan h.count idle refl in
-        record {
-          count = after.0.count;
-          lead = after.1 ∙ ap (after_call a Scan) h.lead;
-          fresh = λ k at more. ap seat_of (after.0.others k at (λ same. absurd (omega arith))) ∙ h.fresh k at more;
         }
 
     -- another process makes an update
@@ -166,9 +147,16 @@ module _ {V P M : Type 0} (a : Algorithm V P M) where
         walk a 1 s (standing Scanning a.first_memory a.first_variables (a.counter Scan) 0) ≡ y →
         Leads (λ x. x ≡ first_state a) (Call 1 Scan ∷ steps_of 1 s) (Scene 1 y)
     opening_leads s y goes time x is =
-        let m = a.first_memory in
-        let p = a.first_variables in
-        let called = standing Scanning m p (a.counter Scan) 0 in
-        leads_on (Scene 1 (idling m p 0)) (Scene 1 called) (Scene 1 y) (Call 1 Scan ∷ []) (steps_of 1 s)
-        (lead_calls 1 m p 0 (omega arith))
-        (lead_walks 1 s called y (omega arith) goes) time x (subst (Scene 1 (idling m p 0)) (sym is) first_scene)
+        let start = first_state a in
+        let idle : alone_of a start 1 ≡ idling a.first_memory a.first_variables 0 =
+        ap (λ (q : TypedProcess V P M). placed a.first_memory (seat_of q)) (embed.first_process_is a 1 one) in
+        let called = call_alone a 1 one time start Scan (embed.count a [] 0)
+        (ap (λ (z : Alone V P M). z.seat.control) idle) refl in
+        subst (λ z. Scene 1 y (run_from a time z (Call 1 Scan ∷ steps_of 1 s))) (sym is)
+        (lead_walks 1 s (standing Scanning a.first_memory a.first_variables (a.counter Scan) 0) y (omega arith) goes
+        (suc time) (run_from a time start (Call 1 Scan ∷ [])) (record {
+          count = called.0.count;
+          lead = called.1 ∙ ap (after_call a Scan) idle;
+          fresh = λ k at more.
+              ap seat_of (called.0.others k at (λ same. absurd (omega arith)) ∙ embed.first_process_is a k at);
+        }))

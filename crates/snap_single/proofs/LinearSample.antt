@@ -1,15 +1,13 @@
 -- A worked linearization of a run of listing U: process 2 updates twice while process 1 scans, and the scan borrows
 -- the view of the second update.
-use Rattle.std.proofs.Common.{◌≡◌, ◌⊎◌, ℕ, ◌<◌, ◌≤◌, Bool, true, false, List, [], ◌∷◌, ◌++◌, Option, Some, None}
+use Rattle.std.proofs.Common.{◌≡◌, ◌⊎◌, ℕ, ◌<◌, ◌≤◌, Bool, true, false, List, [], ◌∷◌, Option, Some, None}
 use Rattle.std.proofs.Common.{length, nat_le, refl, ◌∙◌, sym, ap, subst, arith, inl, inr}
 use Rattle.std.specs.List.{Contains}
-use Rattle.std.proofs.lemmas.Bool.{cases_eq, cases_lt}
 use Rattle.std.proofs.lemmas.List.Elements.{All-from_recursion}
-use Rattle.snap_runs.proofs.Common.{Item, Step, Call, Crash, Scan, Update, Outcome, Answered, Finished, Run, item}
-use Rattle.snap_runs.proofs.Common.{outcome}
+use Rattle.snap_runs.proofs.Common.{Item, Step, Call, Crash, Scan, Update, Answered, Run, item}
 use Rattle.snap_runs.specs.Linearization.{RunsFrom, KeepsOrder, IsLinearization}
 use Rattle.snap_runs.specs.Operation.{Sets, Sees, Operation, IsOperation, EndedBefore}
-use Rattle.snap_runs.specs.Scan.{FinishedScan, count}
+use Rattle.snap_runs.specs.Scan.{FinishedScan}
 use Rattle.snap_runs.proofs.OneOperation.{has_call, one_operation}
 use Rattle.snap_runs.proofs.Order.{Pairs, Apart, all_pairs, keeps_order}
 use Rattle.snap_runs.proofs.Worked.{finished_scan, finished_update, one_of_three}

@@ -1,13 +1,13 @@
 -- In the worked run of listing U: the items at which its operations take place (`TakesPlaceAt`), and items at which
 -- they do not.
-use Rattle.std.proofs.Common.{◌≡◌, ℕ, ◌<◌, ◌≤◌, true, false, List, [], ◌∷◌, ◌++◌, Some, None, refl, ap, subst, arith}
+use Rattle.std.proofs.Common.{◌≡◌, ℕ, ◌<◌, ◌≤◌, true, false, List, [], ◌∷◌, ◌++◌, Some, None, refl, arith}
 use Rattle.std.specs.List.{AllZip}
 use Rattle.std.specs.List.Sorted.{IsNonDecreasing}
 use Rattle.std.proofs.lemmas.List.Elements.{All-from_recursion}
 use Rattle.std.proofs.lemmas.List.Kept.{AllPairs-cons}
-use Rattle.snap_runs.proofs.Common.{Call, Scan, Update, Outcome, Stepped, Finished, Run, outcome}
+use Rattle.snap_runs.proofs.Common.{Call, Scan, Update, Run}
 use Rattle.snap_runs.specs.Linearization.{IsLinearization}
-use Rattle.snap_runs.specs.Operation.{Action, Sets, Sees, Operation, TookPlace, IsOperation}
+use Rattle.snap_runs.specs.Operation.{Sets, Sees, Operation, IsOperation}
 use Rattle.snap_runs.specs.Placement.{TakesPlaceAt, IsPlacedLinearization}
 use Rattle.snap_runs.proofs.Placing.{non_decreasing}
 use Rattle.snap_runs.proofs.Worked as worked

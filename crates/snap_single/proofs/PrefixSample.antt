@@ -1,19 +1,17 @@
 -- Samples of runs of listing U that go on: updates keep their order, and one linearization of a run that the longer
 -- run cannot keep.
-use Rattle.std.proofs.Common.{◌≡◌, ◌⊎◌, ℕ, ◌<◌, ◌≤◌, ◌^◌, true, length, ◌&&◌, nat_eq, zero, suc, List, [], ◌∷◌, ◌++◌}
-use Rattle.std.proofs.Common.{Option, Some, None, refl, sym, ◌∙◌, ap, subst, arith, inl, inr}
+use Rattle.std.proofs.Common.{◌≡◌, ◌⊎◌, ℕ, ◌<◌, ◌≤◌, ◌^◌, true, length, List, [], ◌∷◌, ◌++◌}
+use Rattle.std.proofs.Common.{Some, None, refl, sym, ◌∙◌, ap, subst, arith, inl, inr}
 use Rattle.std.specs.List.{AllByRecursion, AllZip, Contains}
-use Rattle.std.proofs.lemmas.Bool.{cases_eq, cases_lt}
 use Rattle.std.proofs.lemmas.List.Elements.{All-contains, All-from_recursion, recursion_from_All}
 use Rattle.std.proofs.lemmas.List.Sums.{AllPass-from_list_all}
 use Rattle.snap_words.specs.Shape.{is_place}
-use Rattle.snap_runs.proofs.Common.{Item, Call, Scan, Update, Outcome, Called, Finished, who, IsOneOf, Run, IsValidRun}
-use Rattle.snap_runs.proofs.Common.{item, outcome}
+use Rattle.snap_runs.proofs.Common.{Item, Call, Scan, Update, who, IsOneOf, Run, IsValidRun}
+use Rattle.snap_runs.proofs.Common.{item}
 use Rattle.snap_runs.specs.Linearization.{after, Allows, RunsFrom, IsLinearization}
-use Rattle.snap_runs.specs.Operation.{Action, Sets, Sees, Operation, TookPlace, IsOperation, EndedBefore}
+use Rattle.snap_runs.specs.Operation.{Sets, Sees, Operation, IsOperation}
 use Rattle.snap_runs.specs.Placement.{TakesPlaceAt, IsPlacedLinearization}
 use Rattle.snap_runs.specs.WriteStrong.{UpdateCall, updates, IsPrefix, IsWriteStrongChoice}
-use Rattle.snap_runs.proofs.OneOperation.{has_call, one_operation}
 use Rattle.snap_runs.proofs.Order.{Pairs, Apart, all_pairs, all_weaker, keeps_order}
 use Rattle.snap_runs.proofs.Worked.{finished_scan, finished_update, open_update, none_ended, one_of_three}
 use Rattle.snap_runs.proofs.Worked.{takes_place}

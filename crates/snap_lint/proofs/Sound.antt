@@ -1,16 +1,15 @@
 -- The lint is sound: in every run, control stays on the lines that its flow reaches, and a trap that it can foresee
 -- is at a line with a warning of it.
-use Rattle.std.specs.Prelude.{◌≡◌, ◌≢◌, ℕ, zero, suc, ◌-◌, ◌<◌, Bool, true, false, ◌&&◌, List, [], ◌∷◌, length, take}
-use Rattle.std.specs.Prelude.{nat_eq, nat_lt, nat_le, if◌then◌else◌, slice_index_or, slice_set}
+use Rattle.std.specs.Prelude.{◌≡◌, ◌≢◌, ℕ, zero, suc, ◌-◌, ◌<◌, List, [], ◌∷◌, length, take}
+use Rattle.std.specs.Prelude.{slice_index_or, slice_set}
 use Rattle.std.specs.Prelude.{Option, Some, None, Result, Ok, Err, refl}
-use Rattle.std.proofs.Common.{sym, subst, inl, inr, arith}
-use Rattle.std.proofs.lemmas.Bool.{cases_eq, cases_lt, eqb-true}
-use Rattle.std.proofs.lemmas.Grind.{get_or-set_at}
-use Rattle.std.proofs.lemmas.List.{get_or_past, get_or-replicate, get_or-set_other, length-replicate, length-set}
+use Rattle.std.proofs.Common.{subst, inl, inr, arith}
+use Rattle.std.proofs.lemmas.Bool.{cases_eq, cases_lt}
+use Rattle.std.proofs.lemmas.Bool.Decides.{nat_tests}
+use Rattle.std.proofs.lemmas.List.{get_or_past, get_or-replicate, get_or-set_other, get_or-set_same, length-replicate}
+use Rattle.std.proofs.lemmas.List.{length-set}
 use Rattle.std.proofs.lemmas.List.Elements.{All-contains}
 use Rattle.snap_words.specs.Shape.{Counts, IsOneOf}
-use Rattle.snap_words.specs.declared.kind.KindTag.{KindTag}
-use Rattle.snap_words.specs.declared.kind.KindTag.TheVariants as kind
 use Rattle.snap_semantics.specs.declared.instr.Instr.{Instr}
 use Rattle.snap_semantics.specs.declared.process.Activity.{Activity}
 use Rattle.snap_semantics.specs.declared.process.Cause.{Cause}
@@ -21,21 +20,22 @@ use Rattle.snap_semantics.specs.declared.process.Op.TheVariants.{Scan, Update}
 use Rattle.snap_semantics.specs.declared.process.Outcome.TheVariants as outcome
 use Rattle.snap_semantics.specs.declared.process.Reason.{Reason}
 use Rattle.snap_semantics.specs.declared.process.Status.{Status}
-use Rattle.snap_semantics.specs.declared.process.Status.TheVariants.{Idle, Busy, Trapped, Crashed}
+use Rattle.snap_semantics.specs.declared.process.Status.TheVariants.{Idle, Busy, Trapped}
 use Rattle.snap_semantics.specs.IsListing.{IsListing}
 use Rattle.snap_semantics.specs.Run.{after}
 use Rattle.snap_semantics.specs.Source.{Source, instr_at}
 use Rattle.snap_semantics.specs.State.{Locals, Memory, Process, State, initial, initial_process, nobody, process_at}
-use Rattle.snap_semantics.specs.Table.{Effect, Goes, Answers, Finishes, effect_at, leave, step, entry, call_skip}
-use Rattle.snap_semantics.specs.Table.{called, call, crash, done, owner_skip, who}
+use Rattle.snap_semantics.specs.Table.{Effect, Goes, Finishes, effect_at, leave, step, entry, call_skip}
+use Rattle.snap_semantics.specs.Table.{called, call, crash, done, who}
 use Rattle.snap_semantics.specs.Value.{Context}
 use Rattle.snap_runs.specs.Run.{before, item, outcome as outcome_at, run_of_items, state}
 use Rattle.snap_lint.specs.declared.concern.Concern.{Concern}
+use Rattle.snap_lint.specs.declared.mode.Mode.TheVariants as mode
 use Rattle.snap_lint.specs.declared.concern.Warning.{Warning}
 use Rattle.snap_lint.specs.Sound.{AreOfProcesses, IsWarnedOf, SaysNothingOf, SilentNeverTraps, TrapsAreWarnedOf, concern_of}
-use Rattle.snap_lint.specs.Warnings.{has_owners, warnings}
+use Rattle.snap_lint.specs.Warnings.{warnings}
 use Rattle.snap_lint.proofs.Lines.{has_instr}
-use Rattle.snap_lint.proofs.Steps.{Keeps, MayStand, OwnsWord, comes_to_line, line_keeps, scan_begins, update_begins}
+use Rattle.snap_lint.proofs.Steps.{Keeps, MayStand, OwnsWord, comes_to_line, line_keeps, begins}
 use Rattle.snap_lint.proofs.Warned.{warning_at}
 
 -- a process is where control may come and updates no word of another one, or it has trapped where that is warned of
@@ -55,23 +55,9 @@ StateInFlow s S = AreInFlow s S.processes
 set_in : (s : Source) (ps : List Process) (k : ℕ) (p : Process) → IsInFlow s (suc k) p.status → AreInFlow s ps →
     AreInFlow s (slice_set ps k p)
 set_in s ps k p own h j d lt = elim (cases_eq j k) [
-  | inl is ↦
-      subst (λ (q : Process). IsInFlow s (suc j) q.status)
-      (sym (get_or-set_at ps k j p d is (omega (arith, lt, length-set ps k p, is))))
-      (subst (λ (n : ℕ). IsInFlow s (suc n) p.status) (sym is) own)
-  | inr not ↦
-      subst (λ (q : Process). IsInFlow s (suc j) q.status) (sym (get_or-set_other ps k j p d not))
-      (h j d (omega (arith, lt, length-set ps k p)))
+  | inl is ↦ let less : k < length ps = omega (arith, length-set ps k p) in rw (is, get_or-set_same) own
+  | inr not ↦ rw get_or-set_other (h j d (omega (arith, length-set ps k p)))
 ]
-
--- a test of which nothing came was passed
-either_none : (b : Bool) (r : Reason) → (if b then None else Some r) ≡ None → b ≡ true
-either_none true r is = refl
-either_none false r is = absurd (cc)
-
-first_none : (b : Bool) (x : Option Reason) (r : Reason) → (if b then x else Some r) ≡ None → x ≡ None
-first_none true x r is = is
-first_none false x r is = absurd (cc)
 
 -- a number from 1 is behind one from 0
 behind : (n i : ℕ) → IsOneOf n i → suc (i - 1) ≡ i
@@ -81,8 +67,7 @@ module _ (s : Source) (listing : IsListing s) (shape : Counts) where
   process_in : (S : State) → StateInFlow s S → (i : ℕ) → IsInFlow s (suc (i - 1)) (process_at S i).status
   process_in S h i = elim (cases_lt (i - 1) (length S.processes)) [
     | inl less ↦ h (i - 1) nobody less
-    | inr past ↦
-        subst (λ (p : Process). IsInFlow s (suc (i - 1)) p.status) (sym (get_or_past S.processes (i - 1) nobody past)) tt
+    | inr past ↦ rw get_or_past tt
   ]
 
   -- who takes the step
@@ -93,14 +78,14 @@ module _ (s : Source) (listing : IsListing s) (shape : Counts) where
       OwnsWord s.kind c.me a.op → (i : Option Instr) → instr_at s.lines a.line ≡ i →
       Keeps s a.line a.op (effect_at s c m a i)
   at_keeps c m a stand same owns None is = absurd (has_instr s.lines a.line (comes_to_line s _ a.line stand.here) is)
-  at_keeps c m a stand same owns (Some i) is = line_keeps s listing c m a stand same owns i is
+  at_keeps c m a stand same owns (Some i) is = line_keeps s listing a c m stand same owns i is
 
   -- what a step of a process at a line does is as it may be
   taken : (i : ℕ) (p : Process) (a : Activity) (m : Memory) → IsOneOf shape.n i → IsInFlow s (suc (i - 1)) (Busy a) →
       Keeps s a.line a.op (effect_at s (taker i p a) m a (instr_at s.lines a.line))
   taken i p a m one own =
       at_keeps (taker i p a) m a own.0 refl
-      (subst (λ (n : ℕ). OwnsWord s.kind n a.op) (behind shape.n i one) own.1) (instr_at s.lines a.line) refl
+      (rw (behind shape.n i one) at own.1) (instr_at s.lines a.line) refl
 
   leave_keeps : (S : State) (i : ℕ) (a : Activity) (l : Locals) (r : Result Effect Cause) → StateInFlow s S →
       OwnsWord s.kind (suc (i - 1)) a.op → Keeps s a.line a.op r → StateInFlow s (leave S i a l r).0
@@ -115,25 +100,21 @@ module _ (s : Source) (listing : IsListing s) (shape : Counts) where
   step_keeps S i p _ one h own = h
 
   entry_comes : (o : Op) → MayStand s o None (entry s o)
-  entry_comes Scan = record { here = scan_begins s listing.targets.0; after_call = tt }
-  entry_comes (Update word value) = record { here = update_begins s listing.targets.1.0; after_call = tt }
+  entry_comes Scan =
+      record { here = begins s mode.Scan s.scan (grind (arith, nat_tests)) listing.targets.0; after_call = tt }
+  entry_comes (Update word value) =
+      record { here = begins s mode.Update s.update (grind (arith, nat_tests)) listing.targets.1.0; after_call = tt }
 
   -- a call that is not skipped is of no update of another process's word
-  by_owner : (k : KindTag) (i word : ℕ) → owner_skip k i word ≡ None → has_owners k ≡ true → word ≡ i
-  by_owner kind.Multi i word is has = absurd (let e : false ≡ true = has in cc)
-  by_owner _ i word is has = eqb-true word i (either_none (nat_eq word i) _ is)
-
   call_owns : (i : ℕ) (o : Op) → call_skip s.kind shape i o ≡ None → OwnsWord s.kind i o
-  call_owns i Scan is = tt
-  call_owns i (Update word value) is =
-      by_owner s.kind i word (first_none (nat_lt 0 word && nat_le word shape.w) (owner_skip s.kind i word) _ is)
+  call_owns i o is = grind (arith, nat_tests)
 
   called_keeps : (S : State) (i : ℕ) (p : Process) (o : Op) (why : Option Reason) → IsOneOf shape.n i →
       call_skip s.kind shape i o ≡ why → StateInFlow s S → StateInFlow s (called s S i p o why).0
   called_keeps S i p o (Some why) one is h = h
   called_keeps S i p o None one is h =
       set_in s S.processes (i - 1) _
-      (entry_comes o, subst (λ (n : ℕ). OwnsWord s.kind n o) (sym (behind shape.n i one)) (call_owns i o is)) h
+      (entry_comes o, rw (behind shape.n i one) (call_owns i o is)) h
 
   call_keeps : (S : State) (i : ℕ) (o : Op) (p : Process) (status : Status) → IsOneOf shape.n i → StateInFlow s S →
       StateInFlow s (call s shape S i o p status).0
@@ -158,9 +139,8 @@ module _ (s : Source) (listing : IsListing s) (shape : Counts) where
 
   begins_in : StateInFlow s (initial s shape)
   begins_in k d lt =
-      subst (λ (p : Process). IsInFlow s (suc k) p.status)
-      (sym (get_or-replicate shape.n k (initial_process s shape) d
-      (omega (arith, lt, length-replicate shape.n (initial_process s shape))))) tt
+      let less : k < shape.n = omega (arith, length-replicate shape.n (initial_process s shape)) in
+      rw get_or-replicate tt
 
   -- the first items are of processes
   front_of : (t : ℕ) (items : List Item) → AreOfProcesses shape items → AreOfProcesses shape (take t items)
@@ -180,10 +160,9 @@ module _ (s : Source) (listing : IsListing s) (shape : Counts) where
   left_trap : (S : State) (i : ℕ) (a : Activity) (l : Locals) (r : Result Effect Cause) (why : Cause) →
       Keeps s a.line a.op r → (leave S i a l r).1 ≡ outcome.Trapped why → IsWarnedOf s a.line why
   unfolding Keeps
-  left_trap S i a l (Ok (Goes m k link line)) why keeps is = absurd (cc)
-  left_trap S i a l (Ok (Answers v)) why keeps is = absurd (cc)
-  left_trap S i a l (Ok Finishes) why keeps is = absurd (cc)
   left_trap S i a l (Err e) why keeps is = subst (IsWarnedOf s a.line) (let same : e ≡ why = cc in same) keeps
+  left_trap S i a l (Ok Finishes) why keeps is = absurd cc
+  left_trap S i a l _ why keeps is = absurd cc
 
   abbrev WarnedSomewhere : Cause → Type 0
   WarnedSomewhere why = (k : ℕ) × IsWarnedOf s k why
@@ -192,29 +171,14 @@ module _ (s : Source) (listing : IsListing s) (shape : Counts) where
       IsInFlow s (suc (i - 1)) status → (step s shape S i p status).1 ≡ outcome.Trapped why → WarnedSomewhere why
   step_trap S i p (Busy a) why one own is =
       (a.line, left_trap S i a p.locals _ why (taken i p a S.memory one own) is)
-  step_trap S i p _ why one own is = absurd (cc)
-
-  called_trap : (S : State) (i : ℕ) (p : Process) (o : Op) (skip : Option Reason) (why : Cause) →
-      (called s S i p o skip).1 ≡ outcome.Trapped why → WarnedSomewhere why
-  called_trap S i p o (Some reason) why is = absurd (cc)
-  called_trap S i p o None why is = absurd (cc)
-
-  call_trap : (S : State) (i : ℕ) (o : Op) (p : Process) (status : Status) (why : Cause) →
-      (call s shape S i o p status).1 ≡ outcome.Trapped why → WarnedSomewhere why
-  call_trap S i o p Idle why is = called_trap S i p o (call_skip s.kind shape i o) why is
-  call_trap S i o p _ why is = absurd (cc)
-
-  crash_trap : (S : State) (i : ℕ) (p : Process) (status : Status) (why : Cause) →
-      (crash S i p status).1 ≡ outcome.Trapped why → WarnedSomewhere why
-  crash_trap S i p (Trapped e a) why is = absurd (cc)
-  crash_trap S i p _ why is = absurd (cc)
+  step_trap S i p _ why one own is = absurd cc
 
   item_trap : (S : State) (x : Item) (why : Cause) → IsOneOf shape.n (who x) → StateInFlow s S →
       (done s shape S x).1 ≡ outcome.Trapped why → WarnedSomewhere why
   item_trap S (Step i) why one h is =
       step_trap S i (process_at S i) (process_at S i).status why one (process_in S h i) is
-  item_trap S (Call i o) why one h is = call_trap S i o (process_at S i) (process_at S i).status why is
-  item_trap S (Crash i) why one h is = crash_trap S i (process_at S i) (process_at S i).status why is
+  item_trap S (Call i o) why one h is = absurd (grind arith)
+  item_trap S (Crash i) why one h is = absurd (grind arith)
 
   -- an item of the run is of a process
   item_of : (items : List Item) (t : ℕ) → AreOfProcesses shape items → IsOneOf (length items) t →

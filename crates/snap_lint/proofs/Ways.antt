@@ -1,32 +1,27 @@
 -- `ReachedByWays`: the lines that the lint marks round by round (`reached`) are exactly those to which a path of
 -- edges leads from a start.
-use Rattle.std.specs.Prelude.{◌≡◌, ℕ, zero, suc, Bool, true, false, ◌&&◌, ◌||◌, List, []}
-use Rattle.std.specs.Prelude.{◌∷◌, length, nat_eq, if◌then◌else◌, refl}
-use Rattle.std.proofs.Common.{sym, ap, subst, arith, inl, inr}
-use Rattle.std.proofs.lemmas.Bool.{or_cases, and_parts, eqb-true}
+use Rattle.std.specs.Prelude.{◌≡◌, ℕ, zero, suc, Bool, true, false, ◌&&◌, List, [], ◌∷◌, length, nat_eq}
+use Rattle.std.proofs.Common.{ap, arith, inl, inr}
+use Rattle.std.proofs.lemmas.Bool.{and_parts, cases_Bool, eqb-true, or_cases}
+use Rattle.std.proofs.lemmas.Bool.Decides.{nat_tests}
 use Rattle.std.proofs.lemmas.List.Elements.{Contains-append_right}
 use Rattle.std.specs.List.{Contains}
 use Rattle.snap_semantics.specs.declared.instr.Line.{Line}
 use Rattle.snap_semantics.specs.Listing.{has_line}
 use Rattle.snap_lint.specs.declared.edges.Edge.{Edge}
-use Rattle.snap_lint.specs.Marks.{is_in, is_led_to, numbers_where, marks_after, reached, LeadsTo, ReachedByWays}
-use Rattle.snap_lint.proofs.Marking.{edge_reached, only_lines, line_reached, start_reached}
+use Rattle.snap_lint.specs.Marks.{is_in, is_led_to, numbers_where, reached, LeadsTo, ReachedByWays}
+use Rattle.snap_lint.proofs.Marking.{edge_reached, line_reached, mark, only_marks, round, start_reached}
 
 -- a line of this number that passes the test
 abbrev Passes : (Line → Bool) → ℕ → Type 0
 Passes p k = (line : Line) × (line.number ≡ k) × (p line ≡ true)
 
-passes_step : (p : Line → Bool) (b : Bool) (line : Line) (xs : List ℕ) (k : ℕ) → (b ≡ true → p line ≡ true) →
-    (is_in xs k ≡ true → Passes p k) → is_in (if b then line.number ∷ xs else xs) k ≡ true → Passes p k
-passes_step p true line xs k own later is = elim (or_cases (nat_eq k line.number) (is_in xs k) is) [
-  | inl here ↦ (line, sym (eqb-true k line.number here), own refl)
-  | inr more ↦ later more
-]
-passes_step p false line xs k own later is = later is
-
 passes : (p : Line → Bool) (lines : List Line) (k : ℕ) → is_in (numbers_where p lines) k ≡ true → Passes p k
 passes p [] k is = absurd (let e : false ≡ true = is in cc)
-passes p (line ∷ lines) k is = passes_step p (p line) line _ k (λ h. h) (passes p lines k) is
+passes p (line ∷ lines) k is = elim (cases_Bool (p line && nat_eq k line.number)) [
+  | inl own ↦ (line, grind (arith, nat_tests), grind arith)
+  | inr not ↦ passes p lines k (grind arith)
+]
 
 -- a marked line that leads to this one
 abbrev Leads : List Edge → List ℕ → ℕ → Type 0
@@ -47,26 +42,17 @@ module _ (lines : List Line) (es : List Edge) (starts : List ℕ) where
   abbrev HasWay : ℕ → Type 0
   HasWay k = (way : List ℕ) × LeadsTo lines es starts way k
 
-  abbrev round : ℕ → List ℕ
-  round t = marks_after lines es starts t
-
-  abbrev mark : List ℕ → Line → Bool
-  mark marks line = is_in starts line.number || is_led_to es marks line.number
-
-  round_line : (t k : ℕ) → is_in (round t) k ≡ true → has_line lines k ≡ true
-  round_line zero k is = absurd (let e : false ≡ true = is in cc)
-  round_line (suc t) k is = only_lines (mark (round t)) lines k is
-
-  way_of : (t k : ℕ) → is_in (round t) k ≡ true → HasWay k
+  way_of : (t k : ℕ) → is_in (round lines es starts t) k ≡ true → HasWay k
   way_of zero k is = absurd (let e : false ≡ true = is in cc)
   way_of (suc t) k is =
-      let h = passes (mark (round t)) lines k is in
-      elim (or_cases (is_in starts h.0.number) (is_led_to es (round t) h.0.number) h.2) [
-        | inl start ↦ ([], subst (λ n. is_in starts n ≡ true) h.1 start)
+      let marks = round lines es starts t in
+      let h = passes (mark lines es starts marks) lines k is in
+      elim (or_cases (is_in starts h.0.number) (is_led_to es marks h.0.number) h.2) [
+        | inl start ↦ ([], rw h.1 at start)
         | inr led ↦
-            let from = leads es (round t) k (subst (λ n. is_led_to es (round t) n ≡ true) h.1 led) in
+            let from = leads es marks k (rw h.1 at led) in
             let before = way_of t from.0 from.2 in
-            (from.0 ∷ before.0, (from.1, round_line t from.0 from.2, before.1))
+            (from.0 ∷ before.0, (from.1, only_marks lines es starts t from.0 from.2, before.1))
       ]
 
   has_way : (k : ℕ) → is_in (reached lines es starts) k ≡ true → HasWay k

@@ -1,6 +1,6 @@
 -- Laws for the explanation of a refused input: how many lines precede a part, and which words precede a line, where
 -- there are none.
-use Rattle.std.proofs.Common.{◌≡◌, ℕ, List, [], ◌∷◌, ◌++◌, length, map, refl, sym, ap, ◌∙◌, append-nil, None}
+use Rattle.std.proofs.Common.{◌≡◌, ℕ, List, [], ◌∷◌, ◌++◌, length, map, refl, ap, append-nil, None}
 use Rattle.std.proofs.lemmas.List.{length-map}
 use Rattle.snap_semantics.specs.Token.{Token, TextLine}
 use Rattle.snap_explanation.specs.Steps.{view_placed_token, placed_tokens}
@@ -24,9 +24,7 @@ no_words line (l ∷ ls) = refl
 -- where no more lines are taken
 pub exhausted : (line k : ℕ) (ws all : List (List ℕ)) (ls : List TextLine) → k ≡ 0 →
     ws ++ words_before line k ls ≡ all → ws ≡ all
-exhausted line k ws all ls e h =
-    sym (append-nil ws) ∙ ap (λ (x : List (List ℕ)). ws ++ x) (sym (no_words line ls))
-    ∙ ap (λ (n : ℕ). ws ++ words_before line n ls) (sym e) ∙ h
+exhausted line k ws all ls e h = rw (e, no_words, append-nil) at h
 
 -- tokens are the same with their columns and without
 pub same_tokens : (ts : List token.PlacedToken) → tokens_of_placed (map view_placed_token ts) ≡ placed_tokens ts
@@ -40,6 +38,4 @@ placed_length ts = length-map ts (λ (t : token.PlacedToken). view_token t.token
 pub names_of_sort : (k : KindTag) (ws : List (List ℕ)) (wanted : Sort) →
     of_sort (source_in k ws) wanted ≡ names_of wanted None ws
 names_of_sort k ws sort.Scalar = refl
-names_of_sort k ws sort.Row = refl
-names_of_sort k ws sort.Words = refl
-names_of_sort k ws sort.View = refl
+names_of_sort k ws _ = refl

@@ -1,5 +1,5 @@
 -- A line that has the form of a debugger command is not lost (`lost_in` finds no place).
-use Rattle.std.proofs.Common.{◌≡◌, ℕ, List, [], ◌∷◌, None, codes, refl, sym, subst}
+use Rattle.std.proofs.Common.{◌≡◌, ℕ, List, [], ◌∷◌, None, codes}
 use Rattle.snap_words.specs.declared.address.Address.{Address}
 use Rattle.snap_semantics.specs.Rules.{number_at, keyword_at, end_at}
 use Rattle.snap_semantics.specs.Token.{Token, Identifier, Number}
@@ -9,7 +9,7 @@ use Rattle.snap_debug_commands.specs.CommandForms.{marking_form, showing_form, c
 use Rattle.snap_debug_commands.specs.declared.command.Breakpoint.{Breakpoint}
 use Rattle.snap_debug_commands.specs.declared.command.Command.{Command}
 use Rattle.snap_listing.proofs.HasTerms.{Holds, then_with, either}
-use Rattle.snap_listing.proofs.SpelledTerms.{NumberIs, number_is, KeywordIs, keyword_is, EndIs, end_is, on_cons}
+use Rattle.snap_listing.proofs.SpelledTerms.{NumberIs, number_is, KeywordIs, keyword_is, EndIs, end_is}
 use Rattle.snap_explanation.specs.declared.line_sorts.LineSort.TheVariants as line
 use Rattle.snap_explanation.specs.Grammar.{singles, values, written, instructions, commands, class_forms, fronts}
 use Rattle.snap_explanation.specs.Grammar.{options}
@@ -24,7 +24,7 @@ module _ (P : List Token → Type 0) where
   keyword_goes w h ts =
       let Q = λ (x : Unit {0}). P ts in
       then_with (KeywordIs w ts) Q (keyword_at w ts) _ (keyword_is w ts) (λ a e.
-      holds_more (EndIs a) Q (end_at a) (end_is a) (λ z g. subst P (sym (on_cons (Identifier w) ts a [] e g)) h))
+      holds_more (EndIs a) Q (end_at a) (end_is a) (λ z g. rw (e, g) h))
 
   number_goes : (w : List ℕ) → ((k : ℕ) → P (Identifier w ∷ Number k ∷ [])) → (ts : List Token) →
       Holds (λ (k : ℕ). P ts) (number_form w ts)
@@ -33,8 +33,7 @@ module _ (P : List Token → Type 0) where
       let Q = λ (k : ℕ). P ts in
       then_with (KeywordIs w ts) Q (keyword_at w ts) _ (keyword_is w ts) (λ a e.
       then_with (NumberIs a) Q (number_at a) _ (number_is a) (λ k f.
-      then_with (EndIs k.1) Q (end_at k.1) _ (end_is k.1) (λ z g.
-      subst P (sym (on_cons (Identifier w) ts a _ e (on_cons (Number k.0) a k.1 [] f g))) (h k.0))))
+      then_with (EndIs k.1) Q (end_at k.1) _ (end_is k.1) (λ z g. rw (e, f, g) (h k.0))))
 
   numbers_go : (w : List ℕ) → ((i j : ℕ) → P (Identifier w ∷ Number i ∷ Number j ∷ [])) → (ts : List Token) →
       Holds (λ (k : ℕ × ℕ). P ts) (numbers_form w ts)
@@ -44,9 +43,7 @@ module _ (P : List Token → Type 0) where
       then_with (KeywordIs w ts) Q (keyword_at w ts) _ (keyword_is w ts) (λ a e.
       then_with (NumberIs a) Q (number_at a) _ (number_is a) (λ i f.
       then_with (NumberIs i.1) Q (number_at i.1) _ (number_is i.1) (λ j g.
-      then_with (EndIs j.1) Q (end_at j.1) _ (end_is j.1) (λ z u.
-      subst P (sym (on_cons (Identifier w) ts a _ e
-      (on_cons (Number i.0) a i.1 _ f (on_cons (Number j.0) i.1 j.1 [] g u)))) (h i.0 j.0)))))
+      then_with (EndIs j.1) Q (end_at j.1) _ (end_is j.1) (λ z u. rw (e, f, g, u) (h i.0 j.0)))))
 
   breakpoint_goes : (w : List ℕ) → ((i j : ℕ) → P (Identifier w ∷ Number i ∷ Number j ∷ [])) → (ts : List Token) →
       Holds (λ (b : Breakpoint). P ts) (breakpoint_form w ts)
@@ -84,27 +81,16 @@ register_goes w hr hq hp hv ts =
     then_with (KeywordIs w ts) (λ (a : Address). CommandNotLost ts) (keyword_at w ts) _ (keyword_is w ts) (λ rest e.
     holds_more (λ (a : Address). CommandNotLost (Identifier w ∷ rest))
     (λ (a : Address). CommandNotLost ts) (address_form rest)
-    (address_goes (λ (x : List Token). CommandNotLost (Identifier w ∷ x)) hr hq hp hv rest) (λ a h.
-    subst CommandNotLost (sym e) h))
+    (address_goes (λ (x : List Token). CommandNotLost (Identifier w ∷ x)) hr hq hp hv rest) (λ a h. rw e h))
 
 pub command_goes : (ts : List Token) → Holds (λ (c : Command). CommandNotLost ts) (command_form ts)
 unfolding command_form moving_form marking_form showing_form singles values written instructions commands class_forms
     fronts options
-command_goes ts =
-    let C = CommandNotLost ts in let Q = λ (c : Command). C in
-    either Q _ _
-    (either Q _ _ (mapped C _ _ (number_goes CommandNotLost (codes "step") (λ k. refl) ts))
-    (either Q _ _ (mapped C _ _ (number_goes CommandNotLost (codes "back") (λ k. refl) ts))
-    (either Q _ _ (mapped C _ _ (number_goes CommandNotLost (codes "goto") (λ k. refl) ts))
-    (either Q _ _ (mapped C _ _ (keyword_goes CommandNotLost (codes "run") refl ts))
-    (mapped C _ _ (keyword_goes CommandNotLost (codes "rrun") refl ts))))))
-    (either Q _ _
-    (either Q _ _ (mapped C _ _ (breakpoint_goes CommandNotLost (codes "break") (λ i j. refl) ts))
-    (either Q _ _ (mapped C _ _ (breakpoint_goes CommandNotLost (codes "clear") (λ i j. refl) ts))
-    (either Q _ _ (mapped C _ _ (register_goes (codes "watch") (λ k. refl) (λ i j. refl) (λ i j. refl) (λ k. refl) ts))
-    (mapped C _ _ (register_goes (codes "unwatch") (λ k. refl) (λ i j. refl) (λ i j. refl) (λ k. refl) ts)))))
-    (either Q _ _ (mapped C _ _ (register_goes (codes "show") (λ k. refl) (λ i j. refl) (λ i j. refl) (λ k. refl) ts))
-    (either Q _ _ (mapped C _ _ (number_goes CommandNotLost (codes "show") (λ k. refl) ts))
-    (either Q _ _ (mapped C _ _ (keyword_goes CommandNotLost (codes "values") refl ts))
-    (either Q _ _ (mapped C _ _ (keyword_goes CommandNotLost (codes "events") refl ts))
-    (mapped C _ _ (keyword_goes CommandNotLost (codes "where") refl ts)))))))
+command_goes ts = search (
+  either,
+  mapped,
+  keyword_goes CommandNotLost,
+  number_goes CommandNotLost,
+  breakpoint_goes CommandNotLost,
+  register_goes,
+) depth 9

@@ -1,7 +1,7 @@
 -- A line is refused for the first token that is not right.
-use Rattle.std.proofs.Common.{◌≡◌, ℕ, length, refl, sym, ap, ◌∙◌, subst, Bool, true, false, List, [], ◌∷◌, Option}
-use Rattle.std.proofs.Common.{Some, None, Result, Ok, Err, nat_lt, if◌then◌else◌}
-use Rattle.std.proofs.lemmas.Bool.{ltb-false, or_parts}
+use Rattle.std.proofs.Common.{◌≡◌, ℕ, length, refl, sym, ap, ◌∙◌, subst, Bool, List, [], ◌∷◌, Option}
+use Rattle.std.proofs.Common.{Some, None, Result, Ok, Err, nat_lt, if◌then◌else◌, arith, inl, inr}
+use Rattle.std.proofs.lemmas.Bool.{cases_Bool, ltb-false, or_parts}
 use Rattle.snap_semantics.specs.declared.instr.Instr.{Instr}
 use Rattle.snap_semantics.specs.declared.instr.Line.{Line}
 use Rattle.snap_semantics.specs.declared.refusal.ListingRefusal.{ListingRefusal}
@@ -11,7 +11,7 @@ use Rattle.snap_semantics.specs.Answers.{◌>>=◌}
 use Rattle.snap_semantics.specs.ListingForms.{is_reserved, line_form}
 use Rattle.snap_semantics.specs.Source.{Source}
 use Rattle.snap_semantics.specs.Token.{Token}
-use Rattle.snap_semantics.specs.Uses.{Use, Named, BankUse, FieldUse, HandshakeUse, ViewUse, TupleUse, instr_uses}
+use Rattle.snap_semantics.specs.Uses.{Use, Named, instr_uses}
 use Rattle.snap_semantics.specs.Uses.{kind_has, sort_of, same_sort, use_of_sort, checked_use, checked_uses}
 use Rattle.snap_listing.proofs.HasTerms.{Holds}
 use Rattle.snap_listing.proofs.FoundForms.{LineIs, line_is}
@@ -31,64 +31,33 @@ use Rattle.snap_reading_laws.proofs.SpokenTokens.{Spoken}
 abbrev Done : Type 0
 Done = Result (Unit {0}) ListingRefusal
 
-abbrev Refuses : Done → Type 0
-Refuses (Ok done) = ⊥
-Refuses (Err e) = Unit {0}
+-- a use that is not right ends the check
+if_right : (b : Bool) (e : ListingRefusal) (later : Done) →
+    (let r : Done = if b then Ok tt else Err e in (r >>= λ (done : Unit {0}). later) ≡ (if b then later else r))
+if_right b e later = grind arith
 
-kind_right : (at : ℕ) (b : Bool) → b ≡ true →
-    (if b then Ok tt else Err (refusal.WrongKind at)) ≡ (let d : Done = Ok tt in d)
-kind_right at true e = refl
-kind_right at false e = absurd cc
+sort_decides : (at : ℕ) (wanted : Sort) (o : Option Sort) (later : Done) →
+    (use_of_sort at wanted o >>= λ (done : Unit {0}). later)
+    ≡ (if is_sort wanted o then later else use_of_sort at wanted o)
+sort_decides at wanted None later = refl
+sort_decides at wanted (Some found) later = if_right (same_sort wanted found) (refusal.WrongKind at) later
 
-kind_wrong : (at : ℕ) (b : Bool) → b ≡ false → Refuses (if b then Ok tt else Err (refusal.WrongKind at))
-kind_wrong at true e = absurd cc
-kind_wrong at false e = tt
-
-sort_right : (at : ℕ) (wanted : Sort) (o : Option Sort) → is_sort wanted o ≡ true → use_of_sort at wanted o ≡ Ok tt
-sort_right at wanted None e = absurd cc
-sort_right at wanted (Some found) e = kind_right at (same_sort wanted found) e
-
-sort_wrong : (at : ℕ) (wanted : Sort) (o : Option Sort) → is_sort wanted o ≡ false → Refuses (use_of_sort at wanted o)
-sort_wrong at wanted None e = tt
-sort_wrong at wanted (Some found) e = kind_wrong at (same_sort wanted found) e
-
-use_right : (s : Source) (at : ℕ) (u : Use) → is_right s u ≡ true → checked_use s at u ≡ Ok tt
-use_right s at (Named wanted x) e = sort_right at wanted (sort_of s x) e
-use_right s at (BankUse b) e = kind_right at (kind_has s.kind (BankUse b)) e
-use_right s at (FieldUse f) e = kind_right at (kind_has s.kind (FieldUse f)) e
-use_right s at HandshakeUse e = kind_right at (kind_has s.kind HandshakeUse) e
-use_right s at ViewUse e = kind_right at (kind_has s.kind ViewUse) e
-use_right s at (TupleUse k) e = kind_right at (kind_has s.kind (TupleUse k)) e
-
-use_wrong : (s : Source) (at : ℕ) (u : Use) → is_right s u ≡ false → Refuses (checked_use s at u)
-use_wrong s at (Named wanted x) e = sort_wrong at wanted (sort_of s x) e
-use_wrong s at (BankUse b) e = kind_wrong at (kind_has s.kind (BankUse b)) e
-use_wrong s at (FieldUse f) e = kind_wrong at (kind_has s.kind (FieldUse f)) e
-use_wrong s at HandshakeUse e = kind_wrong at (kind_has s.kind HandshakeUse) e
-use_wrong s at ViewUse e = kind_wrong at (kind_has s.kind ViewUse) e
-use_wrong s at (TupleUse k) e = kind_wrong at (kind_has s.kind (TupleUse k)) e
-
-refused_first : (r later : Done) → Refuses r → (r >>= λ (done : Unit {0}). later) ≡ r
-refused_first (Ok done) later h = absurd h
-refused_first (Err e) later h = refl
+use_decides : (s : Source) (at : ℕ) (u : Use) (later : Done) →
+    (checked_use s at u >>= λ (done : Unit {0}). later) ≡ (if is_right s u then later else checked_use s at u)
+use_decides s at (Named wanted x) later = sort_decides at wanted (sort_of s x) later
+use_decides s at u later = if_right (kind_has s.kind u) (refusal.WrongKind at) later
 
 -- one use before others
-decided : (s : Source) (at : ℕ) (t : PlacedToken) (next : Slot) (u : Use) (later : Slot → Option Misuse) (us : List Use)
-    (b : Bool) → is_right s u ≡ b →
-    checked_uses s at us ≡ check_of s at (later next) →
-    checked_uses s at (u ∷ us)
-    ≡ check_of s at (goes_on later (if b then Ok next else Err (record { token = t; spoken = u })))
-decided s at t next u later us true e h =
-    ap (λ (r : Done). r >>= λ (done : Unit {0}). checked_uses s at us) (use_right s at u e) ∙ h
-decided s at t next u later us false e h =
-    refused_first (checked_use s at u) (checked_uses s at us) (use_wrong s at u e)
-
 one_more : (s : Source) (at : ℕ) (t : PlacedToken) (next : Slot) (u : Option Use) (later : Slot → Option Misuse)
     (us : List Use) →
     checked_uses s at us ≡ check_of s at (later next) →
     checked_uses s at (with_use u us) ≡ check_of s at (goes_on later (right_or s t next u))
 one_more s at t next None later us h = h
-one_more s at t next (Some u) later us h = decided s at t next u later us (is_right s u) refl h
+one_more s at t next (Some u) later us h =
+    use_decides s at u (checked_uses s at us) ∙ elim (cases_Bool (is_right s u)) [
+      | inl e ↦ rw e h
+      | inr e ↦ rw e refl
+    ]
 
 -- what tokens speak of is refused for the first one that is not right
 refused_for_first : (s : Source) (at : ℕ) (i : Instr) (here : Slot) (ts : List PlacedToken) →

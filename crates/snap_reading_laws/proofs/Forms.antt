@@ -1,26 +1,27 @@
 -- A line that has the form of a shape, an item, a header line or a line of scripts is not lost (`lost_in` finds no
 -- place).
-use Rattle.std.proofs.Common.{◌≡◌, ℕ, ◌+◌, Bool, true, false, ◌&&◌, List, [], ◌∷◌, Option, Some, None, option_map}
-use Rattle.std.proofs.Common.{nat_lt, bytes_eq, codes, if◌then◌else◌, refl, ap, ◌∙◌}
+use Rattle.std.proofs.Common.{◌≡◌, ℕ, ◌+◌, ◌<◌, Bool, true, false, List, [], ◌∷◌, Option, Some, None, option_map}
+use Rattle.std.proofs.Common.{nat_eq, nat_lt, bytes_eq, codes, if◌then◌else◌, refl, ap, ◌∙◌, arith, inl, inr}
 use Rattle.std.specs.Prelude.{is_some}
-use Rattle.std.proofs.lemmas.Bool.{and_parts}
+use Rattle.std.proofs.lemmas.Bool.{cases_Bool, lt-ltb}
+use Rattle.std.proofs.lemmas.Bool.Decides.{nat_tests}
 use Rattle.snap_semantics.specs.declared.text.Symbol.TheVariants as symbol
 use Rattle.snap_semantics.specs.HeaderForms.{kind_of_keyword, kind_form, words_form, names_form, entry_form}
 use Rattle.snap_semantics.specs.ListingForms.{is_line_number}
-use Rattle.snap_semantics.specs.Rules.{number_at, identifier_at, keyword_at, symbol_at, end_at}
-use Rattle.snap_semantics.specs.ScheduleForms.{ItemForm, Steps, Calls, Crashes, spelled_call, is_count, shape_form}
-use Rattle.snap_semantics.specs.ScheduleForms.{step_form, steps_form, scan_form, update_form, crash_form, item_form}
+use Rattle.snap_semantics.specs.Rules.{number_at, identifier_at, keyword_at, end_at}
+use Rattle.snap_semantics.specs.ScheduleForms.{ItemForm, Steps, Calls, Crashes, is_count, item_form, shape_form}
+use Rattle.snap_semantics.specs.ScheduleForms.{spelled_shape}
 use Rattle.snap_semantics.specs.Token.{Token, Identifier, Number, Sign}
 use Rattle.snap_semantics.specs.declared.process.Op.TheVariants as op
 use Rattle.snap_sched.specs.declared.script_forms.ScriptForm.{ScriptForm}
 use Rattle.snap_sched.specs.ScriptForms.{as_call, call_form, is_turn, crash_at_form, script_form}
 use Rattle.snap_sched.specs.Spelling.{IsSpelling}
-use Rattle.snap_sched.proofs.Found.{item_found}
-use Rattle.snap_words.specs.Shape.{Counts}
+use Rattle.snap_sched.proofs.Found.{item_found, shape_found}
+use Rattle.snap_words.specs.Shape.{Counts, IsOneOf, IsShape, max_count}
 use Rattle.snap_words.specs.declared.kind.KindTag.{KindTag}
 use Rattle.snap_listing.proofs.HasTerms.{Holds, then_with, either}
 use Rattle.snap_listing.proofs.SpelledTerms.{if_when, WordIs, word_is, NumberIs, number_is, KeywordIs}
-use Rattle.snap_listing.proofs.SpelledTerms.{same_word, keyword_is, SymbolIs, symbol_is, EndIs, end_is, on_cons}
+use Rattle.snap_listing.proofs.SpelledTerms.{same_word, keyword_is, EndIs, end_is}
 use Rattle.snap_explanation.specs.declared.parts.Part.{Part}
 use Rattle.snap_explanation.specs.declared.parts.Part.TheVariants as part
 use Rattle.snap_explanation.specs.declared.line_sorts.LineSort.{LineSort}
@@ -68,34 +69,28 @@ line_taken n e = taken_by part.LineNumber (Number n) (is_line_number n) e
 abbrev pub NotLost : {A : Type 0} → LineSort → List Token → A → Type 0
 NotLost sort ts x = lost_in sort ts ≡ None
 
-pub told : {A : Type 0} (sort : LineSort) (ts : List Token) (o : Option A) → Holds (NotLost sort ts) o →
-    is_some o ≡ true → lost_in sort ts ≡ None
-told sort ts None h e = absurd cc
-told sort ts (Some x) h e = h
+pub told : {A P : Type 0} (o : Option A) → Holds (λ (x : A). P) o → is_some o ≡ true → P
+told None h e = absurd cc
+told (Some x) h e = h
+
+found_holds : {A : Type 0} (P : A → Type 0) (o : Option A) → ((x : A) → o ≡ Some x → P x) → Holds P o
+found_holds P None h = tt
+found_holds P (Some x) h = h x refl
 
 -- shapes
-shape_lost : (n w : ℕ) → is_count n ≡ true → is_count w ≡ true →
-    lost_in line.Shape (Identifier (codes "shape") ∷ Number n ∷ Number w ∷ []) ≡ None
+counted : (n : ℕ) → IsOneOf max_count n → is_count n ≡ true
+counted n one = grind (arith, nat_tests)
+
+shape_lost : (s : Counts) → IsShape s.n s.w → lost_in line.Shape (spelled_shape s) ≡ None
 unfolding singles values written instructions commands class_forms fronts options
-shape_lost n w e f =
-    passes 1 part.Count (part.Count ∷ []) (Number n) (Number w ∷ []) refl (count_taken n e)
-    ∙ passes 2 part.Count [] (Number w) [] refl (count_taken w f)
+shape_lost s h =
+    passes 1 part.Count (part.Count ∷ []) (Number s.n) (Number s.w ∷ []) refl (count_taken s.n (counted s.n h.0))
+    ∙ passes 2 part.Count [] (Number s.w) [] refl (count_taken s.w (counted s.w h.1))
 
 pub shape_goes : (ts : List Token) → Holds (NotLost line.Shape ts) (shape_form ts)
-unfolding shape_form
 shape_goes ts =
-    let P = NotLost {A = Counts} line.Shape ts in
-    then_with (KeywordIs (codes "shape") ts) P (keyword_at (codes "shape") ts) _
-    (keyword_is (codes "shape") ts) (λ rest e.
-    then_with (NumberIs rest) P (number_at rest) _ (number_is rest) (λ n f.
-    then_with (NumberIs n.1) P (number_at n.1) _ (number_is n.1) (λ w g.
-    then_with (EndIs w.1) P (end_at w.1) _ (end_is w.1) (λ z h.
-    if_when P (is_count n.0 && is_count w.0) _ _ (λ t.
-    let both = and_parts (is_count n.0) (is_count w.0) t in
-    let all : ts ≡ Identifier (codes "shape") ∷ Number n.0 ∷ Number w.0 ∷ [] =
-    e ∙ ap (λ (x : List Token). Identifier (codes "shape") ∷ x)
-    (f ∙ ap (λ (x : List Token). Number n.0 ∷ x) (g ∙ ap (λ (x : List Token). Number w.0 ∷ x) h)) in
-    ap (λ (x : List Token). lost_in line.Shape x) all ∙ shape_lost n.0 w.0 both.0 both.1) tt))))
+    found_holds (NotLost {A = Counts} line.Shape ts) (shape_form ts) (λ s e.
+    let h = shape_found ts s e in rw h.0 (shape_lost s h.1))
 
 -- a form that is made of another one's
 pub mapped : {A B : Type 0} (P : Type 0) (f : A → B) (o : Option A) → Holds (λ (x : A). P) o →
@@ -103,51 +98,28 @@ pub mapped : {A B : Type 0} (P : Type 0) (f : A → B) (o : Option A) → Holds 
 mapped P f None h = h
 mapped P f (Some x) h = h
 
-closes : (sort : LineSort) (ts all : List Token) → ts ≡ all → lost_in sort all ≡ None → lost_in sort ts ≡ None
-closes sort ts all e h = ap (λ (x : List Token). lost_in sort x) e ∙ h
-
 -- items
-steps_lost : (i k : ℕ) → nat_lt 0 k ≡ true → lost_in line.Item (Number i ∷ Sign symbol.Star ∷ Number k ∷ []) ≡ None
+steps_lost : (i k : ℕ) → 0 < k → lost_in line.Item (Number i ∷ Sign symbol.Star ∷ Number k ∷ []) ≡ None
 unfolding singles values written instructions commands class_forms fronts options
-steps_lost i k e = passes 2 part.Positive [] (Number k) [] refl (positive_taken k e)
+steps_lost i k some = passes 2 part.Positive [] (Number k) [] refl (positive_taken k (lt-ltb 0 k some))
+
+-- what spells an item
+item_lost : (ts : List Token) (f : ItemForm) → IsSpelling f ts → lost_in line.Item ts ≡ None
+unfolding singles values written instructions commands class_forms fronts options
+item_lost ts (Steps i count) h = elim h.1 [
+  | inl short ↦ elim (cases_Bool (nat_eq count 1)) [
+    | inl one ↦ rw (short, one) refl
+    | inr more ↦ rw (short, more) (steps_lost i count h.0)
+  ]
+  | inr long ↦ rw long (steps_lost i count h.0)
+]
+item_lost ts (Calls i op.Scan) h = rw h refl
+item_lost ts (Calls i (op.Update word value)) h = rw h refl
+item_lost ts (Crashes i) h = rw h refl
 
 pub item_goes : (ts : List Token) → Holds (NotLost line.Item ts) (item_form ts)
-unfolding item_form step_form steps_form scan_form update_form crash_form singles values written instructions commands
-    class_forms fronts options
 item_goes ts =
-    let P = NotLost {A = ItemForm} line.Item ts in
-    either P _ _
-    (then_with (NumberIs ts) P (number_at ts) _ (number_is ts) (λ i e.
-    then_with (EndIs i.1) P (end_at i.1) _ (end_is i.1)
-    (λ z h. closes line.Item ts _ (on_cons (Number i.0) ts i.1 [] e h) refl)))
-    (either P _ _
-    (then_with (NumberIs ts) P (number_at ts) _ (number_is ts) (λ i e.
-    then_with (SymbolIs symbol.Star i.1) P (symbol_at symbol.Star i.1) _ (symbol_is symbol.Star i.1) (λ a f.
-    then_with (NumberIs a) P (number_at a) _ (number_is a) (λ k g.
-    then_with (EndIs k.1) P (end_at k.1) _ (end_is k.1) (λ z h.
-    if_when P (nat_lt 0 k.0) _ _ (λ t.
-    closes line.Item ts _ (on_cons (Number i.0) ts i.1 _ e
-    (on_cons (Sign symbol.Star) i.1 a _ f (on_cons (Number k.0) a k.1 [] g h))) (steps_lost i.0 k.0 t)) tt)))))
-    (either P _ _
-    (then_with (NumberIs ts) P (number_at ts) _ (number_is ts) (λ i e.
-    then_with (KeywordIs (codes "scan") i.1) P (keyword_at (codes "scan") i.1) _ (keyword_is (codes "scan") i.1) (λ a f.
-    then_with (EndIs a) P (end_at a) _ (end_is a) (λ z h.
-    closes line.Item ts _ (on_cons (Number i.0) ts i.1 _ e (on_cons (Identifier (codes "scan")) i.1 a [] f h)) refl))))
-    (either P _ _
-    (then_with (NumberIs ts) P (number_at ts) _ (number_is ts) (λ i e.
-    then_with (KeywordIs (codes "update") i.1) P (keyword_at (codes "update") i.1) _
-    (keyword_is (codes "update") i.1) (λ a f.
-    then_with (NumberIs a) P (number_at a) _ (number_is a) (λ k g.
-    then_with (NumberIs k.1) P (number_at k.1) _ (number_is k.1) (λ x u.
-    then_with (EndIs x.1) P (end_at x.1) _ (end_is x.1) (λ z h.
-    closes line.Item ts _ (on_cons (Number i.0) ts i.1 _ e (on_cons (Identifier (codes "update")) i.1 a _ f
-    (on_cons (Number k.0) a k.1 _ g (on_cons (Number x.0) k.1 x.1 [] u h)))) refl))))))
-    (then_with (NumberIs ts) P (number_at ts) _ (number_is ts) (λ i e.
-    then_with (KeywordIs (codes "crash") i.1) P (keyword_at (codes "crash") i.1) _
-    (keyword_is (codes "crash") i.1) (λ a f.
-    then_with (EndIs a) P (end_at a) _ (end_is a) (λ z h.
-    closes line.Item ts _
-    (on_cons (Number i.0) ts i.1 _ e (on_cons (Identifier (codes "crash")) i.1 a [] f h)) refl)))))))
+    found_holds (NotLost {A = ItemForm} line.Item ts) (item_form ts) (λ f e. item_lost ts f (item_found ts f e))
 
 -- header lines
 kind_lost : (w : List ℕ) →
@@ -168,9 +140,7 @@ kind_goes ts =
     then_with (KeywordIs (codes "kind") ts) P (keyword_at (codes "kind") ts) _ (keyword_is (codes "kind") ts) (λ a e.
     then_with (WordIs a) P (identifier_at a) _ (word_is a) (λ w f.
     then_with _ P (kind_of_keyword w.0) _ (kind_lost w.0) (λ k g.
-    then_with (EndIs w.1) P (end_at w.1) _ (end_is w.1) (λ z h.
-    closes (line.Header header.Kind) ts _
-    (on_cons (Identifier (codes "kind")) ts a _ e (on_cons (Identifier w.0) a w.1 [] f h)) g))))
+    then_with (EndIs w.1) P (end_at w.1) _ (end_is w.1) (λ z h. rw (e, f, h) g))))
 
 -- identifiers to the end of the line
 words_go : (k : ℕ) (ts : List Token) →
@@ -181,8 +151,7 @@ words_go k (Identifier w ∷ ts) =
     then_with (λ (ws : List (List ℕ)). lost (k + 1) (plain (part.Names ∷ [])) ts ≡ None)
     (λ (ws : List (List ℕ)). lost k (plain (part.Names ∷ [])) (Identifier w ∷ ts) ≡ None) (words_form ts) _
     (words_go (k + 1) ts) (λ ws h. h)
-words_go k (Number n ∷ ts) = tt
-words_go k (Sign m ∷ ts) = tt
+words_go k _ = tt
 
 pub holds_more : {A : Type 0} (Q P : A → Type 0) (o : Option A) → Holds Q o → ((x : A) → Q x → P x) → Holds P o
 holds_more Q P None h f = tt
@@ -197,8 +166,8 @@ unfolding names_form
 names_by p x first ts =
     let P = λ (ws : List (List ℕ)). lost 0 (plain (p ∷ part.Names ∷ [])) ts ≡ None in
     then_with (KeywordIs x ts) P (keyword_at x ts) _ (keyword_is x ts) (λ a e.
-    holds_more (λ (ws : List (List ℕ)). lost 1 (plain (part.Names ∷ [])) a ≡ None) P (words_form a) (words_go 1 a) (λ ws h.
-    ap (λ (y : List Token). lost 0 (plain (p ∷ part.Names ∷ [])) y) e ∙ first a ∙ h))
+    holds_more (λ (ws : List (List ℕ)). lost 1 (plain (part.Names ∷ [])) a ≡ None) P (words_form a) (words_go 1 a)
+    (λ ws h. rw e (first a ∙ h)))
 
 line_lost : (k : ℕ) → is_line_number k ≡ true → lost 1 (plain (part.LineNumber ∷ [])) (Number k ∷ []) ≡ None
 line_lost k e = passes 1 part.LineNumber [] (Number k) [] refl (line_taken k e)
@@ -215,24 +184,15 @@ entry_by p x first ts =
     then_with (KeywordIs x ts) P (keyword_at x ts) _ (keyword_is x ts) (λ a e.
     then_with (NumberIs a) P (number_at a) _ (number_is a) (λ k f.
     then_with (EndIs k.1) P (end_at k.1) _ (end_is k.1) (λ z h.
-    if_when P (is_line_number k.0) _ _ (λ t.
-    ap (λ (y : List Token). lost 0 (plain (p ∷ part.LineNumber ∷ [])) y) e
-    ∙ first a
-    ∙ ap (λ (y : List Token). lost 1 (plain (part.LineNumber ∷ [])) y) (on_cons (Number k.0) a k.1 [] f h)
-    ∙ line_lost k.0 t)
-    tt)))
+    if_when P (is_line_number k.0) _ _ (λ t. rw (e, f, h) (first (Number k.0 ∷ []) ∙ line_lost k.0 t)) tt)))
 
 -- scripts
-found_holds : {A : Type 0} (P : A → Type 0) (o : Option A) → ((x : A) → o ≡ Some x → P x) → Holds P o
-found_holds P None h = tt
-found_holds P (Some x) h = h x refl
-
 call_goes : (ts : List Token) (f : ItemForm) → IsSpelling f ts →
     Holds (NotLost {A = ScriptForm} line.Script ts) (as_call f)
 unfolding singles values written instructions commands class_forms fronts options
 call_goes ts (Steps i count) h = tt
-call_goes ts (Calls i op.Scan) h = closes line.Script ts (spelled_call i op.Scan) h refl
-call_goes ts (Calls i (op.Update word value)) h = closes line.Script ts (spelled_call i (op.Update word value)) h refl
+call_goes ts (Calls i op.Scan) h = rw h refl
+call_goes ts (Calls i (op.Update word value)) h = rw h refl
 call_goes ts (Crashes i) h = tt
 
 turn_lost : (i k : ℕ) → is_turn k ≡ true →
@@ -246,12 +206,10 @@ script_goes ts =
     let P = NotLost {A = ScriptForm} line.Script ts in
     either P _ _
     (then_with (λ (f : ItemForm). IsSpelling f ts) P (item_form ts) _
-    (found_holds (λ (f : ItemForm). IsSpelling f ts) (item_form ts) (item_found ts)) (λ f h. call_goes ts f h))
+    (found_holds (λ (f : ItemForm). IsSpelling f ts) (item_form ts) (item_found ts)) (call_goes ts))
     (then_with (NumberIs ts) P (number_at ts) _ (number_is ts) (λ i e.
     then_with (KeywordIs (codes "crash") i.1) P (keyword_at (codes "crash") i.1) _
     (keyword_is (codes "crash") i.1) (λ a f.
     then_with (NumberIs a) P (number_at a) _ (number_is a) (λ k g.
     then_with (EndIs k.1) P (end_at k.1) _ (end_is k.1) (λ z h.
-    if_when P (is_turn k.0) _ _ (λ t.
-    closes line.Script ts _ (on_cons (Number i.0) ts i.1 _ e
-    (on_cons (Identifier (codes "crash")) i.1 a _ f (on_cons (Number k.0) a k.1 [] g h))) (turn_lost i.0 k.0 t)) tt)))))
+    if_when P (is_turn k.0) _ _ (λ t. rw (e, f, g, h) (turn_lost i.0 k.0 t)) tt)))))

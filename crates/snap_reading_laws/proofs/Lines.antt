@@ -1,9 +1,10 @@
 -- What each form of a line does, form by form: what it leaves of the views and words is as its intent tells (`leaves`),
 -- and so is the link of its process (`links`); and the operand at which it traps is the one that is told (`line_told`).
-use Rattle.std.proofs.Common.{◌≡◌, ℕ, ◌-◌, ◌<◌, ◌≤◌, rules, true, false, ◌&&◌, nat_lt, nat_le, Result, Ok, Err, []}
-use Rattle.std.proofs.Common.{if◌then◌else◌, refl, Bool, List, ap, ◌∙◌, Option, Some, None, get_or, length, slice_set}
-use Rattle.std.proofs.Common.{sym, subst, arith, ◌++◌, append_assoc, ◌∷◌, codes}
+use Rattle.std.proofs.Common.{◌≡◌, ℕ, ◌-◌, ◌<◌, ◌≤◌, true, false, ◌&&◌, Result, Ok, Err, []}
+use Rattle.std.proofs.Common.{if◌then◌else◌, refl, Bool, List, ap, ◌∙◌, Option, Some, None, length, slice_set}
+use Rattle.std.proofs.Common.{sym, arith, ◌++◌, append_assoc, ◌∷◌, codes}
 use Rattle.std.specs.List.{list_all}
+use Rattle.std.proofs.lemmas.Bool.Decides.{nat_tests}
 use Rattle.std.proofs.lemmas.List.Elements.{All-get_or}
 use Rattle.snap_words.specs.Word.{Word, no_word}
 use Rattle.snap_words.specs.Kind.{is_bit, is_sized, may_write}
@@ -27,8 +28,8 @@ use Rattle.snap_semantics.specs.Answers.{◌>>=◌}
 use Rattle.snap_semantics.specs.Table.{tuple_word, with_memory_bits, Effect, Goes, Answers, Finishes, call_goes}
 use Rattle.snap_semantics.specs.Table.{finish_goes, first_goes, on, return_goes, bank_of, bit_value, effect, owned}
 use Rattle.snap_semantics.specs.Table.{with_bits, with_memory_views}
-use Rattle.snap_semantics.specs.State.{Memory, Locals, value_at, with_scalar, State, with_memory_words, with_view}
-use Rattle.snap_semantics.specs.State.{with_words, process_at}
+use Rattle.snap_semantics.specs.State.{Memory, Locals, value_at, with_scalar, State, with_memory_words}
+use Rattle.snap_semantics.specs.State.{process_at}
 use Rattle.snap_semantics.specs.Source.{Name, Source, following}
 use Rattle.snap_semantics.specs.RightUses.{HasRightUses}
 use Rattle.snap_semantics.specs.Rules.{or_else}
@@ -75,22 +76,12 @@ pub record IsThere (count k r : ℕ) : Type 0 where
 
 pub place_there : (count k r : ℕ) → place_in count k ≡ Ok r → IsThere count k r
 place_there count k r e =
-    elim (nat_lt 0 k) as (λ b. nat_lt 0 k ≡ b →
-    (let p : Result ℕ Cause = if b && nat_le k count then Ok (k - 1) else Err cause.Index in p) ≡ Ok r →
-    IsThere count k r) [
-      | true ↦ λ first. elim (nat_le k count) as (λ b. nat_le k count ≡ b →
-          (let p : Result ℕ Cause = if b then Ok (k - 1) else Err cause.Index in p) ≡ Ok r → IsThere count k r) [
-            | true ↦ λ last h. record { first = search rules; last = search rules; is = cc }
-            | false ↦ λ last h. absurd (let wrong : Err cause.Index ≡ Ok r = h in cc)
-          ] refl
-      | false ↦ λ first h. absurd (let wrong : Err cause.Index ≡ Ok r = h in cc)
-    ] refl e
+    record { first = grind (arith, nat_tests); last = grind (arith, nat_tests); is = grind (arith, nat_tests) }
 
 -- what a test lets through is as it was
 passed : {A : Type 0} (b : Bool) (c : Cause) (x y : A) →
     (let r : Result A Cause = if b then Ok x else Err c in r) ≡ Ok y → y ≡ x
-passed true c x y e = cc
-passed false c x y e = absurd cc
+passed b c x y e = grind arith
 
 -- a word that a tuple makes has the view of the local that is named beside its value
 HasView : List ℕ → Result Word Cause → Type 0
@@ -217,27 +208,20 @@ leaves s S c m a (Get x i j) h of right =
     let to = place_there (places c.shape) (index_value c i) k there in
     let from = place_there c.shape.w (index_value c j) r read in
     let many : length old ≡ places c.shape = h.words x (is_words s x right.0) in
-    let within : index_value c i - 1 < length old =
-    (let first = to.first in let last = to.last in omega (arith, first, last, many)) in
-    onward c.locals m t (following s.lines a.line) m _ a.link
-    (subst (λ (n : ℕ). Went c.locals m t m
-    (with_words x (slice_set old n (get_or m.words r no_word)) c.locals)) to.is
-    (subst (λ (n : ℕ). Went c.locals m t m
-    (with_words x (slice_set old (index_value c i - 1) (get_or m.words n no_word)) c.locals)) from.is
-    (got c.locals m x (index_value c i) (index_value c j) to.first from.first within)))))
+    let within : index_value c i - 1 < length old = omega (arith, to, many) in
+    onward c.locals m t (following s.lines a.line) m _ a.link (rw (← to.is, ← from.is)
+    (got c.locals m x (index_value c i) (index_value c j) to.first from.first within))))
 leaves s S c m a (Look x i) h of right =
     let t : Act = stepped (intent_of_line c (Look x i)) S c.me in
     bound c.locals m t None (place_in c.shape.n (index_value c i)) _ (λ k there.
     let from = place_there c.shape.n (index_value c i) k there in
     let rows : length m.views ≡ c.shape.n = of.view_count ∙ ap (λ (b : Bool). if b then c.shape.n else 0) right.1.0 in
-    let below : index_value c i - 1 < length m.views =
-    (let first = from.first in let last = from.last in omega (arith, first, last, rows)) in
+    let below : index_value c i - 1 < length m.views = omega (arith, from, rows) in
     let long : length (view_register m (index_value c i)) ≡ c.shape.w =
     All-get_or (λ (v : List ℕ). length v ≡ c.shape.w) m.views (index_value c i - 1) [] below of.view_places in
     let own : length (view_in c.locals x) ≡ c.shape.w = h.views x (is_view s x right.0) in
     onward c.locals m t (following s.lines a.line) m _ a.link
-    (subst (λ (n : ℕ). Went c.locals m t m (with_view x (get_or m.views n []) c.locals)) from.is
-    (looked c.locals m x (index_value c i) from.first (own ∙ sym long))))
+    (rw (← from.is) (looked c.locals m x (index_value c i) from.first (own ∙ sym long))))
 leaves s S c m a (Put i parts_of) h of right =
     let t : Act = stepped (intent_of_line c (Put i parts_of)) S c.me in
     bound c.locals m t None (place_in c.shape.w (index_value c i)) _ (λ r there.
@@ -251,11 +235,9 @@ leaves s S c m a (Put i parts_of) h of right =
     let beside : x.view ≡ named_view c.locals (view_beside parts_of) =
     ap (λ (w : Word). w.view) same ∙ view_of_made _ (tuple_word c parts_of) parts (tuple_view c parts_of) is in
     let many : length m.words ≡ c.shape.w = of.word_count in
-    let within : index_value c i - 1 < length m.words =
-    (let first = to.first in let last = to.last in omega (arith, first, last, many)) in
+    let within : index_value c i - 1 < length m.words = omega (arith, to, many) in
     onward c.locals m t (following s.lines a.line) (with_memory_words (slice_set m.words r x) m) c.locals a.link
-    (subst (λ (n : ℕ). Went c.locals m t (with_memory_words (slice_set m.words n x) m) c.locals) to.is
-    (wrote c.locals m (index_value c i) _ (view_beside parts_of) x to.first within beside))))))
+    (rw (← to.is) (wrote c.locals m (index_value c i) _ (view_beside parts_of) x to.first within beside))))))
 leaves s S c m a (PutView i x) h of right =
     let t : Act = stepped (intent_of_line c (PutView i x)) S c.me in
     bound c.locals m t None (place_in c.shape.n (index_value c i)) _ (λ k there.
@@ -264,21 +246,16 @@ leaves s S c m a (PutView i x) h of right =
     let same : v ≡ value_at x c.locals.views [] =
     passed (may_write s.kind c.me bank.V (index_value c i)) cause.Owner (value_at x c.locals.views []) v own in
     let rows : length m.views ≡ c.shape.n = of.view_count ∙ ap (λ (b : Bool). if b then c.shape.n else 0) right.0 in
-    let within : index_value c i - 1 < length m.views =
-    (let first = to.first in let last = to.last in omega (arith, first, last, rows)) in
+    let within : index_value c i - 1 < length m.views = omega (arith, to, rows) in
     onward c.locals m t (following s.lines a.line) (with_memory_views (slice_set m.views k v) m) c.locals a.link
-    (subst (λ (n : ℕ). Went c.locals m t (with_memory_views (slice_set m.views n v) m) c.locals) to.is
-    (subst (λ (w : List ℕ). Went c.locals m t
-    (with_memory_views (slice_set m.views (index_value c i - 1) w) m) c.locals) (sym same)
-    (published c.locals m (index_value c i) x to.first within)))))
+    (rw (← to.is, same) (published c.locals m (index_value c i) x to.first within))))
 leaves s S c m a (ViewOf x y i) h of right =
     let t : Act = stepped (intent_of_line c (ViewOf x y i)) S c.me in
     bound c.locals m t None (place_in (places c.shape) (index_value c i)) _ (λ k there.
     let from = place_there (places c.shape) (index_value c i) k there in
     let words : List Word = value_at y c.locals.words [] in
     let many : length words ≡ places c.shape = h.words y (is_words s y right.1.1.0) in
-    let below : index_value c i - 1 < length words =
-    (let first = from.first in let last = from.last in omega (arith, first, last, many)) in
+    let below : index_value c i - 1 < length words = omega (arith, from, many) in
     let word : is_sized s.kind c.shape (word_in c.locals (spot_of c y i)) ≡ true =
     All-get_or (λ (w : Word). is_sized s.kind c.shape w ≡ true) words (index_value c i - 1) no_word below
     (h.words_sized y) in
@@ -286,8 +263,7 @@ leaves s S c m a (ViewOf x y i) h of right =
     view_sized s.kind c.shape (word_in c.locals (spot_of c y i)) right.1.0 word in
     let own : length (view_in c.locals x) ≡ c.shape.w = h.views x (is_view s x right.0) in
     onward c.locals m t (following s.lines a.line) m _ a.link
-    (subst (λ (n : ℕ). Went c.locals m t m (with_view x (get_or words n no_word).view c.locals)) from.is
-    (borrowed c.locals m x (spot_of c y i) from.first (own ∙ sym long))))
+    (rw (← from.is) (borrowed c.locals m x (spot_of c y i) from.first (own ∙ sym long))))
 leaves s S c m a _ h of right = search leaving depth 11
 
 -- the links before and after an instruction
@@ -318,8 +294,7 @@ module _ (i : Instr) (t : Act) (b : Option ℕ) where
 
 first_links : (i : Instr) (s : Source) (a : Activity) (m : Memory) (l : Locals) (x : Name) (target : ℕ) (o : Option ℕ) →
     Links i act.Other a.link (first_goes s a m l x target o)
-first_links i s a m l x target None = passes i act.Other a.link (following s.lines a.line) m l a.link refl
-first_links i s a m l x target (Some p) = refl
+first_links i s a m l x target o = grind arith
 
 call_on_links : (i : Instr) (o : Option ℕ) (m : Memory) (l : Locals) (target : ℕ) → IsCallLine (Some i) →
     Links i act.Enter None (on o (λ k. Goes m l (Some k) target))
@@ -338,9 +313,7 @@ return_links x m l op.Scan None = refl
 return_links x m l (op.Update word value) None = tt
 
 finish_links : (i : Instr) (o : Op) (link : Option ℕ) → Links i act.Other link (finish_goes o link)
-finish_links i (op.Update word value) None = refl
-finish_links i (op.Update word value) (Some line) = tt
-finish_links i op.Scan link = tt
+finish_links i o link = grind arith
 
 ruleset linking = (after, passes, branch, first_links, call_links, return_links, finish_links)
 
@@ -353,18 +326,18 @@ links s S c m a _ = search linking depth 9
 -- an operand, and what comes after it
 tells_then : {A B : Type 0} (o p : Option Trouble) (found : Result A Cause) (f : A → Result B Cause) →
     Takes o found → ((v : A) → IsTold p (f v)) → IsTold (or_else o p) (found >>= f)
-tells_then None p found f h k = subst (λ r. IsTold p (r >>= f)) (sym h.1) (k h.0)
+tells_then None p found f h k = rw h.1 (k h.0)
 tells_then (Some t) p found f h k = ap (λ r. r >>= f) h
 
 tells_last : {A B : Type 0} (o : Option Trouble) (found : Result A Cause) (f : A → Result B Cause) →
     Takes o found → ((v : A) → IsTold None (f v)) → IsTold o (found >>= f)
-tells_last None found f h k = subst (λ r. IsTold None (r >>= f)) (sym h.1) (k h.0)
+tells_last None found f h k = rw h.1 (k h.0)
 tells_last (Some t) found f h k = ap (λ r. r >>= f) h
 
 -- an operand whose value decides
 tells_by : {A B : Type 0} (o p : Option Trouble) (v : A) (found : Result A Cause) (f : A → Result B Cause) →
     Gives o v found → IsTold p (f v) → IsTold (or_else o p) (found >>= f)
-tells_by None p v found f h k = subst (λ r. IsTold p (r >>= f)) (sym h) k
+tells_by None p v found f h k = rw h k
 tells_by (Some t) p v found f h k = ap (λ r. r >>= f) h
 
 -- two steps that are one operand
@@ -377,33 +350,25 @@ tells_both (Some t) p (Err e) f g h k = ap (λ r. r >>= g) h
 
 -- the following line, which is there or not
 on_tells : (k : Option ℕ) (f : ℕ → Effect) → IsTold None (on k f)
-on_tells None f = tt
-on_tells (Some line) f = tt
+on_tells k f = grind arith
 
 goes_tells : (b : Bool) (e : Effect) (k : Option ℕ) (f : ℕ → Effect) → IsTold None (if b then Ok e else on k f)
-goes_tells true e k f = tt
-goes_tells false e k f = on_tells k f
+goes_tells b e k f = grind arith
 
 first_tells : (s : Source) (a : Activity) (m : Memory) (l : Locals) (x : Name) (target : ℕ) (p : Option ℕ) →
     IsTold None (first_goes s a m l x target p)
-first_tells s a m l x target None = on_tells _ _
-first_tells s a m l x target (Some p) = tt
+first_tells s a m l x target p = grind arith
 
 call_tells : (s : Source) (a : Activity) (m : Memory) (l : Locals) (target : ℕ) (link : Option ℕ) →
     IsTold None (call_goes s a m l target link)
-call_tells s a m l target (Some link) = tt
-call_tells s a m l target None = on_tells _ _
+call_tells s a m l target link = grind arith
 
 return_tells : (m : Memory) (l : Locals) (v : List ℕ) (o : Op) (link : Option ℕ) →
     IsTold None (return_goes m l v o link)
-return_tells m l v o (Some link) = tt
-return_tells m l v op.Scan None = tt
-return_tells m l v (op.Update word value) None = tt
+return_tells m l v o link = grind arith
 
 finish_tells : (o : Op) (link : Option ℕ) → IsTold None (finish_goes o link)
-finish_tells (op.Update word value) None = tt
-finish_tells (op.Update word value) (Some link) = tt
-finish_tells op.Scan link = tt
+finish_tells o link = grind arith
 
 place_takes : (c : Context) (i : _) (count : ℕ) → Takes (place_trouble c i count) (place_in count (index_value c i))
 place_takes c i count = takes (place_trouble c i count) (index_value c i - 1) _ (place_gives c i count)

@@ -2,7 +2,7 @@
 use Rattle.std.proofs.Common.{◌≡◌, ℕ, ◌≤◌, ◌++◌, length, take, take_all, refl, sym, ap, ◌∙◌, append_assoc, append-nil}
 use Rattle.std.proofs.Common.{arith, Bool, true, false, List, [], ◌∷◌, Option, Some}
 use Rattle.std.proofs.Common.{None, nat_eq, nat_lt, if◌then◌else◌}
-use Rattle.std.proofs.lemmas.Bool.{ltb-false, or_parts}
+use Rattle.std.proofs.lemmas.Bool.{cond-false, cond-true, ltb-false, or_parts}
 use Rattle.std.proofs.lemmas.List.{length-append}
 use Rattle.std.specs.List.{AllByRecursion}
 use Rattle.snap_words.specs.declared.kind.Field.{Field}
@@ -68,14 +68,6 @@ close = Sign symbol.CloseParenthesis ∷ []
 abbrev bracket : List Token
 bracket = Sign symbol.CloseBracket ∷ []
 
-if_false : {A : Type 0} (b : Bool) (x y : A) → b ≡ false → (if b then x else y) ≡ y
-if_false true x y e = absurd cc
-if_false false x y e = refl
-
-if_true : {A : Type 0} (b : Bool) (x y : A) → b ≡ true → (if b then x else y) ≡ x
-if_true true x y e = refl
-if_true false x y e = absurd cc
-
 -- no view ends the instruction behind a name, where these tokens are behind it
 abbrev pub NoView : Instr → List Token → Type 0
 NoView i ts = (us : List Token) → ends_with_view i (length (us ++ ts)) ≡ false
@@ -85,11 +77,11 @@ deeper i vs ts h us = ap (λ (xs : List Token). ends_with_view i (length xs)) (s
     ∙ h (us ++ vs)
 
 lone : (i : Instr) (ts : List Token) → NoView i ts → lone_sort i (length ts) ≡ sort.Scalar
-lone i ts h = if_false (ends_with_view i (length ts)) sort.View sort.Scalar (h [])
+lone i ts h = cond-false (ends_with_view i (length ts)) sort.View sort.Scalar (h [])
 
 pub lone_value : (i : Instr) (ts : List Token) → opens_with symbol.OpenBracket ts ≡ false → NoView i ts →
     sort_at i slot.Value ts ≡ sort.Scalar
-lone_value i ts o h = if_false (opens_with symbol.OpenBracket ts) sort.Row (lone_sort i (length ts)) o ∙ lone i ts h
+lone_value i ts o h = cond-false (opens_with symbol.OpenBracket ts) sort.Row (lone_sort i (length ts)) o ∙ lone i ts h
 
 -- names
 name_is : (i : Instr) (s : Slot) (x : Name) (ts : List Token) → IsName x →
@@ -264,48 +256,33 @@ join_reads : (i : Instr) (j : Join) (ts : List Token) →
 join_reads i And ts = refl
 join_reads i Or ts = refl
 
--- a comparison before others
-joined_reads : (i : Instr) (j : Join) (k : Comparison) (ps : List Token) (us : List Use) (ts : List Token) →
-    Spoken (comparison_uses k) → NoView i ts → Fields i →
-    Reads i slot.Value ps us ts →
-    Reads i slot.Value (spelled_comparison k ++ Identifier (join_keyword j) ∷ ps) (comparison_uses k ++ us) ts
-joined_reads i j k ps us ts n v w h =
+-- a comparison before a condition
+joined_reads : (i : Instr) (j : Join) (k : Comparison) (c : Condition) (ts : List Token) →
+    Spoken (comparison_uses k ++ condition_uses c) → NoView i ts → Fields i →
+    (Spoken (condition_uses c) → Reads i slot.Value (spelled_condition c) (condition_uses c) ts) →
+    Reads i slot.Value (spelled_comparison k ++ Identifier (join_keyword j) ∷ spelled_condition c)
+    (comparison_uses k ++ condition_uses c) ts
+joined_reads i j k c ts n v w h =
     let next = Identifier (join_keyword j) in
-    parted i slot.Value slot.Value (spelled_comparison k) next ps (comparison_uses k) us ts
-    (comparison_reads i k (next ∷ (ps ++ ts)) n refl (deeper i (next ∷ []) (ps ++ ts) (deeper i ps ts v)) w)
-    (join_reads i j (ps ++ ts)) h
-
--- two comparisons, and three
-two_read : (i : Instr) (j : Join) (k l : Comparison) (ts : List Token) →
-    Spoken (comparison_uses k ++ comparison_uses l) → opens_with symbol.OpenBracket ts ≡ false → NoView i ts →
-    Fields i →
-    Reads i slot.Value (spelled_comparison k ++ Identifier (join_keyword j) ∷ spelled_comparison l)
-    (comparison_uses k ++ comparison_uses l) ts
-two_read i j k l ts n b v w =
-    joined_reads i j k (spelled_comparison l) (comparison_uses l) ts
-    (first_of_both (comparison_uses k) (comparison_uses l) n) v w
-    (comparison_reads i l ts (second_of_both (comparison_uses k) (comparison_uses l) n) b v w)
-
-three_read : (i : Instr) (j : Join) (k l m : Comparison) (ts : List Token) →
-    Spoken (comparison_uses k ++ (comparison_uses l ++ comparison_uses m)) →
-    opens_with symbol.OpenBracket ts ≡ false → NoView i ts → Fields i →
-    Reads i slot.Value (spelled_condition (Three j k l m))
-    (comparison_uses k ++ (comparison_uses l ++ comparison_uses m)) ts
-three_read i j k l m ts n b v w =
-    let later = comparison_uses l ++ comparison_uses m in
-    joined_reads i j k (spelled_condition (Two j l m)) later ts (first_of_both (comparison_uses k) later n) v w
-    (two_read i j l m ts (second_of_both (comparison_uses k) later n) b v w)
+    let ps = spelled_condition c in
+    parted i slot.Value slot.Value (spelled_comparison k) next ps (comparison_uses k) (condition_uses c) ts
+    (comparison_reads i k (next ∷ (ps ++ ts)) (first_of_both (comparison_uses k) (condition_uses c) n) refl
+    (deeper i (next ∷ []) (ps ++ ts) (deeper i ps ts v)) w)
+    (join_reads i j (ps ++ ts)) (h (second_of_both (comparison_uses k) (condition_uses c) n))
 
 condition_reads : (i : Instr) (c : Condition) (ts : List Token) → Spoken (condition_uses c) →
     opens_with symbol.OpenBracket ts ≡ false → NoView i ts → Fields i →
     Reads i slot.Value (spelled_condition c) (condition_uses c) ts
 condition_reads i (One k) ts n b v w = comparison_reads i k ts n b v w
-condition_reads i (Two j k l) ts n b v w = two_read i j k l ts n b v w
-condition_reads i (Three j k l m) ts n b v w = three_read i j k l m ts n b v w
+condition_reads i (Two j k l) ts n b v w =
+    joined_reads i j k (One l) ts n v w (λ last. comparison_reads i l ts last b v w)
+condition_reads i (Three j k l m) ts n b v w =
+    joined_reads i j k (Two j l m) ts n v w (λ few.
+    joined_reads i j l (One m) ts few v w (λ last. comparison_reads i m ts last b v w))
 condition_reads i (Four j k l m o) ts n b v w =
-    let later = comparison_uses l ++ (comparison_uses m ++ comparison_uses o) in
-    joined_reads i j k (spelled_condition (Three j l m o)) later ts (first_of_both (comparison_uses k) later n) v w
-    (three_read i j l m o ts (second_of_both (comparison_uses k) later n) b v w)
+    joined_reads i j k (Three j l m o) ts n v w (λ more.
+    joined_reads i j l (Two j m o) ts more v w (λ few.
+    joined_reads i j m (One o) ts few v w (λ last. comparison_reads i o ts last b v w)))
 
 pub where_open : (k : Option Condition) → opens_with symbol.OpenBracket (spelled_where k) ≡ false
 where_open None = refl
@@ -404,7 +381,7 @@ bits_reads i d h t x n =
     (expr_reads p slot.Value d (comma ∷ (rest ++ close)) (first_of_both ud uses n.1) (value_open p)
     (lone_value p (comma ∷ (rest ++ close)) refl far) refl far (λ f. refl)) refl
     (name_then p slot.Part h behind sort.Row later.0
-    (if_true (nat_lt 3 (length behind)) sort.Row (lone_sort p (length behind)) many)
+    (cond-true (nat_lt 3 (length behind)) sort.Row (lone_sort p (length behind)) many)
     (parted p slot.Part slot.Part (spelled_expr t) comma last ut ux close
     (expr_reads p slot.Part t (comma ∷ (last ++ close)) (first_of_both ut ux later.1) (part_open p) refl refl near
     (λ f. refl)) refl

@@ -1,14 +1,14 @@
 -- The view in a local is the one that was written where it is said to come from.
-use Rattle.std.proofs.Common.{◌≡◌, ℕ, zero, suc, ◌+◌, ◌-◌, ◌<◌, ◌≤◌, Bool, true, false, ◌&&◌, List, []}
-use Rattle.std.proofs.Common.{Option, Some, None, bytes_eq, nat_eq, nat_lt, nat_le, get_or, length, if◌then◌else◌}
+use Rattle.std.proofs.Common.{◌≡◌, ℕ, zero, suc, ◌+◌, ◌-◌, ◌<◌, ◌≤◌, Bool, true, false, ◌&&◌, List}
+use Rattle.std.proofs.Common.{Option, Some, None, bytes_eq, nat_eq, nat_lt, nat_le, length}
 use Rattle.std.proofs.Common.{refl, sym, subst, ap, ◌∙◌, inl, inr, arith}
-use Rattle.std.proofs.lemmas.Bool.{and_parts, cases_lt, eqb-false, eqb-true, ltb-true}
+use Rattle.std.proofs.lemmas.Bool.{and_parts, cases_Bool, cases_lt, eqb-false, eqb-true, ltb-true}
 use Rattle.std.proofs.lemmas.Slice.Eq.{bytes_eq-Decides}
 use Rattle.snap_words.specs.Shape.{IsOneOf}
-use Rattle.snap_words.specs.Word.{Word, no_word}
+use Rattle.snap_words.specs.Word.{Word}
 use Rattle.snap_semantics.specs.IsListing.{IsListing}
 use Rattle.snap_semantics.specs.Source.{Name}
-use Rattle.snap_semantics.specs.State.{Locals, Memory, Process, process_at, value_at}
+use Rattle.snap_semantics.specs.State.{Locals, Memory, Process, process_at}
 use Rattle.snap_runs.specs.Run.{IsValidRun, Run, state}
 use Rattle.snap_runs.specs.Scan.{FinishedScan}
 use Rattle.snap_acts.specs.Trace.{trace_of}
@@ -33,64 +33,49 @@ use Rattle.snap_reading_laws.proofs.loans.Went.{Tells, named_view, register, vie
 first_below : (w : StepPattern) (ss : List TraceStep) (k count e : ℕ) → first_within w ss k count ≡ Some e →
     e < k + count
 first_below w ss k zero e is = absurd cc
-first_below w ss k (suc count) e is = by_first (meets w (step_at ss k)) (first_below w ss (k + 1) count e) is
-  where
-    by_first : (b : Bool) → (first_within w ss (k + 1) count ≡ Some e → e < k + 1 + count) →
-        (if b then Some k else first_within w ss (k + 1) count) ≡ Some e → e < k + suc count
-    by_first true more is = let same : k ≡ e = cc in omega (arith, same)
-    by_first false more is = let less = more is in omega (arith, less)
+first_below w ss k (suc count) e is = grind (arith, first_below w ss (k + 1) count e)
 
 -- what only such items change stays from the last of them on
 module _ {A : Type 0} (F : ℕ → A) (w : StepPattern) (ss : List TraceStep) (most : ℕ)
     (frame : (k : ℕ) → k < most → meets w (step_at ss k) ≡ false → F (suc k) ≡ F k) where
   since : (k g : ℕ) → k ≤ most → last_before w ss k ≡ Some g → F k ≡ F (suc g)
   since zero g within e = absurd cc
-  since (suc k) g within e =
-      by_last (meets w (step_at ss k)) refl (since k g (omega (arith, within))) e
-    where
-      by_last : (b : Bool) → meets w (step_at ss k) ≡ b → (last_before w ss k ≡ Some g → F k ≡ F (suc g)) →
-          (if b then Some k else last_before w ss k) ≡ Some g → F (suc k) ≡ F (suc g)
-      by_last true is more e = ap (λ j. F (suc j)) (let same : k ≡ g = cc in same)
-      by_last false is more e = frame k (omega (arith, within)) is ∙ more e
+  since (suc k) g within e = elim (cases_Bool (meets w (step_at ss k))) [
+    | inl is ↦
+        let here : Some k ≡ Some g = rw is at e in
+        ap (λ j. F (suc j)) (let same : k ≡ g = cc in same)
+    | inr other ↦ frame k (omega arith) other ∙ since k g (omega arith) (rw other at e)
+  ]
 
   between : (k g e : ℕ) → k ≤ most → last_before w ss k ≡ Some g → g < e → e ≤ k → F e ≡ F (suc g)
   between zero g e within is later before = absurd cc
-  between (suc k) g e within is later before =
-      elim (cases_lt k e) [
-        | inl last ↦
-            subst (λ j. F j ≡ F (suc g)) (let same : suc k ≡ e = omega (arith, last, before) in same)
-            (since (suc k) g within is)
-        | inr less ↦
-            by_last less (meets w (step_at ss k))
-            (λ there. between k g e (omega (arith, within)) there later less) is
-      ]
-    where
-      by_last : e ≤ k → (b : Bool) → (last_before w ss k ≡ Some g → F e ≡ F (suc g)) →
-          (if b then Some k else last_before w ss k) ≡ Some g → F e ≡ F (suc g)
-      by_last less true more there = absurd (let same : k ≡ g = cc in omega (arith, same, later, less))
-      by_last less false more there = more there
+  between (suc k) g e within is later before = elim (cases_lt k e) [
+    | inl last ↦
+        subst (λ j. F j ≡ F (suc g)) (let same : suc k ≡ e = omega arith in same) (since (suc k) g within is)
+    | inr less ↦ elim (cases_Bool (meets w (step_at ss k))) [
+      | inl here ↦ absurd (let it : Some k ≡ Some g = rw here at is in let same : k ≡ g = cc in omega arith)
+      | inr other ↦ between k g e (omega arith) (rw other at is) later less
+    ]
+  ]
 
 -- what is said of a view that was taken, and of a scan
 abbrev written_in : Option Borrowed → Option ℕ
 written_in None = None
 written_in (Some b) = b.written
 
-abbrev scan_or : Option ScanPlaces → ScanPlaces
-scan_or None = record { process = 0; from = 0; to = 0 }
-scan_or (Some s) = s
+abbrev scan_of : (process from to : ℕ) → ScanPlaces
+scan_of process from to = record { process = process; from = from; to = to }
 
 -- what an item wrote beside a word
 wrote_view : (j : ℕ) (l l' : Locals) (m m' : Memory) (a : Act) → writes_word j a ≡ true → Tells l m a m' l' →
     (register m' j).view ≡ named_view l (handed_on a)
-wrote_view j l l' m m' (act.Write word values x) e h =
-    subst (λ (n : ℕ). (register m' n).view ≡ named_view l x) (eqb-true word j e) h
+wrote_view j l l' m m' (act.Write word values x) e h = rw (eqb-true word j e) at h
 wrote_view j l l' m m' _ e h = absurd cc
 
 -- an item that publishes writes into a register of views
 wrote_register : (j : ℕ) (l l' : Locals) (m m' : Memory) (a : Act) → publishes j a ≡ true → Tells l m a m' l' →
     view_register m' j ≡ named_view l (handed_on a)
-wrote_register j l l' m m' (act.Publish k x) e h =
-    subst (λ (n : ℕ). view_register m' n ≡ view_in l x) (eqb-true k j e) h
+wrote_register j l l' m m' (act.Publish k x) e h = rw (eqb-true k j e) at h
 wrote_register j l l' m m' _ e h = absurd cc
 
 -- what an item read into a place
@@ -105,10 +90,7 @@ at_spot : (spot into : Spot) (l' : Locals) (word : Word) →
     word_in l' spot ≡ word
 at_spot spot into l' word e h =
     let same = and_parts (bytes_eq into.words spot.words) (nat_eq into.place spot.place) e in
-    subst (λ (x : Name). get_or (value_at x l'.words []) (spot.place - 1) no_word ≡ word)
-    ((bytes_eq-Decides into.words spot.words).0 same.0)
-    (subst (λ (p : ℕ). get_or (value_at into.words l'.words []) (p - 1) no_word ≡ word)
-    (eqb-true into.place spot.place same.1) h)
+    rw ((bytes_eq-Decides into.words spot.words).0 same.0, eqb-true into.place spot.place same.1) at h
 
 has_read : (spot : Spot) (l l' : Locals) (m m' : Memory) (a : Act) → reads_into spot a ≡ true → Tells l m a m' l' →
     HasRead spot l' m a
@@ -137,14 +119,12 @@ module _ (r : Run) (listing : IsListing r.source) (valid : IsValidRun r) where
   of_process : {A : Type 0} (F : Locals → A) (i k : ℕ) (b : Bool) → IsOneOf r.shape.n i → k < most →
       (b ≡ false → F (locals (suc k) (process k)) ≡ F (locals k (process k))) →
       (nat_eq (process k) i && b) ≡ false → F (locals (suc k) i) ≡ F (locals k i)
-  of_process {A} F i k b one within h away = by_process (nat_eq (process k) i) refl away
-    where
-      by_process : (c : Bool) → nat_eq (process k) i ≡ c → (c && b) ≡ false → F (locals (suc k) i) ≡ F (locals k i)
-      by_process true is other =
-          subst (λ (j : ℕ). F (locals (suc k) j) ≡ F (locals k j)) (eqb-true (process k) i is) (h other)
-      by_process false is other =
-          ap (λ (q : Process). F q.locals)
-          ((told r k listing valid within).others i one (λ same. eqb-false (process k) i is (sym same)))
+  of_process F i k b one within h away = elim (cases_Bool (nat_eq (process k) i)) [
+    | inl is ↦ rw (eqb-true (process k) i is) at (h (rw is at away))
+    | inr is ↦
+        ap (λ (q : Process). F q.locals)
+        ((told r k listing valid within).others i one (λ same. eqb-false (process k) i is (sym same)))
+  ]
 
   word_frame : (j k : ℕ) → 0 < j → k < most → meets (wanted.WriteOf j) (step_at ss k) ≡ false →
       register (state r (suc k)).memory j ≡ register (state r k).memory j
@@ -251,11 +231,10 @@ module _ (r : Run) (listing : IsListing r.source) (valid : IsValidRun r) where
   written_of : (o : Option ℕ) (a w : ℕ) (b : Borrowed) → view_taken_at ss (taken_from ss a o) ≡ Some b →
       b.written ≡ Some w → source_at ss o ≡ Some w
   written_of None a w b e h = absurd cc
-  written_of (Some k) a w b e h = by_test (nat_le a k && takes_view (step_at ss k).act) e
-    where
-      by_test : (c : Bool) → view_taken_at ss (if c then Some k else None) ≡ Some b → source_at ss (Some k) ≡ Some w
-      by_test true e = ap written_in e ∙ h
-      by_test false e = absurd cc
+  written_of (Some k) a w b e h = elim (cases_Bool (nat_le a k && takes_view (step_at ss k).act)) [
+    | inl is ↦ ap written_in (rw is at e) ∙ h
+    | inr is ↦ absurd (let none : view_taken_at ss None ≡ Some b = rw is at e in cc)
+  ]
 
   taken_is : (s : ScanPlaces) (b : Borrowed) (w : ℕ) → s.to < most → view_taken ss s ≡ Some b → b.written ≡ Some w →
       handed_view r s.to ≡ handed_view r w
@@ -276,26 +255,18 @@ module _ (r : Run) (listing : IsListing r.source) (valid : IsValidRun r) where
       first_within (wanted.Leave i) ss a (k - a) ≡ o → ((e : ℕ) → o ≡ Some e → e < k) → scan_to i a d o ≡ Some s →
       Around i d k s
   around_to i a d k None s from to below is = absurd cc
-  around_to i a d k (Some e) s from to below is = by_test (nat_lt d e) refl is
-    where
-      by_test : (b : Bool) → nat_lt d e ≡ b →
-          (let o : Option ScanPlaces = if b then Some (record { process = i; from = a; to = e }) else None in o)
-          ≡ Some s → Around i d k s
-      by_test true later is =
-          let place : e ≡ s.to = ap (λ (o : Option ScanPlaces). (scan_or o).to) is in
-          let start : a ≡ s.from = ap (λ (o : Option ScanPlaces). (scan_or o).from) is in
-          let less : e < k = below e refl in
-          let more : d < e = ltb-true d e later in
-          record {
-            process = sym (ap (λ (o : Option ScanPlaces). (scan_or o).process) is);
-            begun = from ∙ ap (λ (n : ℕ). Some n) start;
-            ended =
-                subst (λ (n : ℕ). first_within (wanted.Leave i) ss n (k - n) ≡ Some s.to) start
-                (to ∙ ap (λ (n : ℕ). Some n) place);
-            after = omega (arith, place, more);
-            before = omega (arith, place, less);
-          }
-      by_test false later is = absurd cc
+  around_to i a d k (Some e) s from to below is = elim (cases_Bool (nat_lt d e)) [
+    | inl later ↦
+        let scan : Some (scan_of i a e) ≡ Some s = rw later at is in
+        subst (Around i d k) (let same : scan_of i a e ≡ s = cc in same) (record {
+          process = refl;
+          begun = from;
+          ended = to;
+          after = ltb-true d e later;
+          before = below e refl;
+        })
+    | inr later ↦ absurd (let none : None ≡ Some s = rw later at is in cc)
+  ]
 
   around_from : (i d k : ℕ) (o : Option ℕ) (s : ScanPlaces) → d < k → last_before (wanted.Enter i) ss d ≡ o →
       scan_from ss i d k o ≡ Some s → Around i d k s

@@ -1,6 +1,6 @@
 -- What each item of a run leaves of the views and words is as the trace tells (`Told`).
 use Rattle.std.proofs.Common.{◌≡◌, ◌≢◌, ℕ, zero, suc, ◌+◌, ◌-◌, ◌<◌, List, [], ◌∷◌, Option, Some, None}
-use Rattle.std.proofs.Common.{Result, Ok, Err, length, slice_index_or, slice_set, take, refl, sym, subst, ap, arith}
+use Rattle.std.proofs.Common.{Result, Ok, Err, length, slice_index_or, slice_set, take, refl, sym, subst, arith}
 use Rattle.std.specs.List.{AllByRecursion}
 use Rattle.std.proofs.lemmas.List.{get_or-set_other, get_or-set_same}
 use Rattle.snap_words.specs.Shape.{Counts, IsOneOf}
@@ -30,7 +30,7 @@ use Rattle.snap_acts.specs.declared.act.Act.{Act}
 use Rattle.snap_acts.specs.declared.act.Act.TheVariants as act
 use Rattle.snap_reading_laws.proofs.Lines.{Leaves, leaves}
 use Rattle.snap_reading_laws.proofs.loans.Turns.{Turn, done_turn}
-use Rattle.snap_reading_laws.proofs.loans.Went.{Went, kept}
+use Rattle.snap_reading_laws.proofs.loans.Went.{Tells, Went, kept}
 
 -- what an item of process i left, which did this: the other processes are as they were
 pub record Told (n i : ℕ) (S : State) (a : Act) (S' : State) : Type 0 where
@@ -60,6 +60,16 @@ module _ (s : Source) (shape : Counts) where
             (λ same. other (omega (arith, one.0, is.0, same)));
       }
 
+  -- an item that sets the status of its process alone
+  status_told : (i : ℕ) (S : State) (t : Act) (status : Status) → IsOneOf shape.n i → length S.processes ≡ shape.n →
+      (let l : Locals = (process_at S i).locals in Tells l S.memory t S.memory l) →
+      (let p : Process = record { status = status; locals = (process_at S i).locals } in
+      Told shape.n i S t (record { memory = S.memory; processes = slice_set S.processes (i - 1) p }))
+  status_told i S t status one count h =
+      let l : Locals = (process_at S i).locals in
+      set_told i S t S.memory (record { status = status; locals = l }) one count
+      (kept l l S.memory S.memory t refl refl refl refl h)
+
   leave_told : (i : ℕ) (S : State) (a : Activity) (x : Item) (c : Context) (found : Option Instr)
       (e : Result Effect Cause) → IsOneOf shape.n i → length S.processes ≡ shape.n →
       ((S' : State) → Leaves (process_at S i).locals S.memory (stepped (intent_of_instr c found) S' i)
@@ -70,17 +80,9 @@ module _ (s : Source) (shape : Counts) where
       let S' : State = record { memory = m; processes = slice_set S.processes (i - 1) q } in
       set_told i S _ m q one count (h S')
   leave_told i S a x c found (Ok (Answers v)) one count h =
-      let l : Locals = (process_at S i).locals in
-      set_told i S _ S.memory (record { status = Idle; locals = l }) one count
-      (kept l l S.memory S.memory (act.Answer v (returned (intent_of_instr c found))) refl refl refl refl (h S))
-  leave_told i S a x c found (Ok Finishes) one count h =
-      let l : Locals = (process_at S i).locals in
-      set_told i S _ S.memory (record { status = Idle; locals = l }) one count
-      (kept l l S.memory S.memory act.Done refl refl refl refl tt)
-  leave_told i S a x c found (Err cause) one count h =
-      let l : Locals = (process_at S i).locals in
-      set_told i S _ S.memory (record { status = Trapped cause a; locals = l }) one count
-      (kept l l S.memory S.memory act.Trap refl refl refl refl tt)
+      status_told i S (act.Answer v (returned (intent_of_instr c found))) Idle one count (h S)
+  leave_told i S a x c found (Ok Finishes) one count h = status_told i S act.Done Idle one count tt
+  leave_told i S a x c found (Err cause) one count h = status_told i S act.Trap (Trapped cause a) one count tt
 
   module _ (listing : IsListing s) where
     leaves_at : (S' : State) (c : Context) (m : Memory) (a : Activity) (found : Option Instr) →
@@ -106,10 +108,7 @@ module _ (s : Source) (shape : Counts) where
         (let r = called s S i (process_at S i) o why in
         Told shape.n i S (act_of (intent_of s shape S (item.Call i o)) r.0 i (item.Call i o) r.1) r.0)
     called_told i S o (Some reason) sized one = skipped i S one
-    called_told i S o None sized one =
-        let l : Locals = (process_at S i).locals in
-        set_told i S (act.Call o) S.memory _ one sized.count
-        (kept l l S.memory S.memory (act.Call o) refl refl refl refl tt)
+    called_told i S o None sized one = status_told i S (act.Call o) _ one sized.count tt
 
     call_told : (i : ℕ) (S : State) (o : Op) (status : Status) → IsSized s shape S → IsOneOf shape.n i →
         (let r = call s shape S i o (process_at S i) status in
@@ -117,19 +116,11 @@ module _ (s : Source) (shape : Counts) where
     call_told i S o Idle sized one = called_told i S o (call_skip s.kind shape i o) sized one
     call_told i S o _ sized one = skipped i S one
 
-    crashed_told : (i : ℕ) (S : State) (p : Process) → p.locals ≡ (process_at S i).locals → IsSized s shape S →
-        IsOneOf shape.n i →
-        Told shape.n i S act.Crash (record { memory = S.memory; processes = slice_set S.processes (i - 1) p })
-    crashed_told i S p same sized one =
-        set_told i S act.Crash S.memory p one sized.count
-        (kept (process_at S i).locals p.locals S.memory S.memory act.Crash refl refl
-        (ap (λ (l : Locals). l.views) same) (ap (λ (l : Locals). l.words) same) tt)
-
     crash_told : (i : ℕ) (S : State) (status : Status) → IsSized s shape S → IsOneOf shape.n i →
         (let r = crash S i (process_at S i) status in
         Told shape.n i S (act_of (intent_of s shape S (item.Crash i)) r.0 i (item.Crash i) r.1) r.0)
-    crash_told i S (Busy a) sized one = crashed_told i S _ refl sized one
-    crash_told i S Idle sized one = crashed_told i S _ refl sized one
+    crash_told i S (Busy a) sized one = status_told i S act.Crash _ one sized.count tt
+    crash_told i S Idle sized one = status_told i S act.Crash _ one sized.count tt
     crash_told i S _ sized one = skipped i S one
 
     -- each item

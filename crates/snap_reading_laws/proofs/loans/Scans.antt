@@ -1,7 +1,7 @@
 -- The lender of a view is a whole scan of an update of the process that wrote the view (`FinishedScan`).
-use Rattle.std.proofs.Common.{◌≡◌, ◌⊎◌, inl, inr, ℕ, zero, suc, ◌+◌, ◌<◌, ◌≤◌, Bool, true, false, ◌&&◌, nat_eq}
-use Rattle.std.proofs.Common.{List, [], Option, Some, length, if◌then◌else◌, refl, sym, subst, ap, ◌∙◌, arith}
-use Rattle.std.proofs.lemmas.Bool.{and_parts, cases_lt, eq-eqb, eqb-false, eqb-true}
+use Rattle.std.proofs.Common.{◌≡◌, ◌⊎◌, inl, inr, ℕ, zero, suc, ◌+◌, ◌<◌, ◌≤◌, true, false, ◌&&◌, nat_eq}
+use Rattle.std.proofs.Common.{List, [], Option, Some, length, refl, sym, subst, ap, ◌∙◌, arith}
+use Rattle.std.proofs.lemmas.Bool.{and_parts, cases_Bool, cases_eq, cases_lt, eq-eqb, eqb-false, eqb-true}
 use Rattle.snap_words.specs.Shape.{IsOneOf}
 use Rattle.snap_semantics.specs.IsListing.{IsListing}
 use Rattle.snap_semantics.specs.Source.{Name, Source}
@@ -9,10 +9,9 @@ use Rattle.snap_semantics.specs.State.{Locals, Process, process_at, value_at}
 use Rattle.snap_semantics.specs.Table.{who}
 use Rattle.snap_semantics.specs.declared.instr.Instr.{Instr}
 use Rattle.snap_semantics.specs.declared.instr.Instr.TheVariants.{Return}
-use Rattle.snap_semantics.specs.declared.process.Item.TheVariants as item
 use Rattle.snap_semantics.specs.declared.process.Status.{Status}
 use Rattle.snap_semantics.specs.declared.process.Status.TheVariants.{Busy}
-use Rattle.snap_runs.specs.Run.{IsValidRun, Run, state, item as item_at, outcome as outcome_at}
+use Rattle.snap_runs.specs.Run.{IsValidRun, Run, state}
 use Rattle.snap_runs.specs.Scan.{Ends, FinishedScan, ReturnsView, line_in, link_in}
 use Rattle.snap_acts.specs.Trace.{trace_of}
 use Rattle.snap_acts.specs.Loans.{handed_on, step_at}
@@ -24,20 +23,13 @@ use Rattle.snap_acts.specs.declared.searches.StepPattern.{StepPattern}
 use Rattle.snap_acts.specs.declared.searches.StepPattern.TheVariants as wanted
 use Rattle.snap_reading_laws.specs.loans.Held.{handed_view, held, held_if_named}
 use Rattle.snap_reading_laws.proofs.loans.Items.{told, turn}
-use Rattle.snap_reading_laws.proofs.loans.Turns.{Begins, IsStuck, Returns}
+use Rattle.snap_reading_laws.proofs.loans.Turns.{IsStuck}
 
 -- what is found is there
 pub found : (w : StepPattern) (ss : List TraceStep) (k g : ℕ) → last_before w ss k ≡ Some g →
     (g < k) × (meets w (step_at ss g) ≡ true)
 found w ss zero g e = absurd cc
-found w ss (suc k) g e = by_last (meets w (step_at ss k)) refl (found w ss k g) e
-  where
-    by_last : (b : Bool) → meets w (step_at ss k) ≡ b →
-        (last_before w ss k ≡ Some g → (g < k) × (meets w (step_at ss g) ≡ true)) →
-        (if b then Some k else last_before w ss k) ≡ Some g → (g < suc k) × (meets w (step_at ss g) ≡ true)
-    by_last true is more e =
-        let same : k ≡ g = cc in (omega (arith, same), subst (λ j. meets w (step_at ss j) ≡ true) same is)
-    by_last false is more e = let there = more e in let less = there.0 in (omega (arith, less), there.1)
+found w ss (suc k) g e = grind (arith, found w ss k g)
 
 -- the first place at which there is what is wanted
 pub record IsFirst (w : StepPattern) (ss : List TraceStep) (k e : ℕ) : Type 0 where
@@ -48,29 +40,22 @@ pub record IsFirst (w : StepPattern) (ss : List TraceStep) (k e : ℕ) : Type 0 
 pub is_first : (w : StepPattern) (ss : List TraceStep) (k count e : ℕ) → first_within w ss k count ≡ Some e →
     IsFirst w ss k e
 is_first w ss k zero e is = absurd cc
-is_first w ss k (suc count) e is =
-    by_first (meets w (step_at ss k)) refl (is_first w ss (k + 1) count e) is
-  where
-    by_first : (b : Bool) → meets w (step_at ss k) ≡ b →
-        (first_within w ss (k + 1) count ≡ Some e → IsFirst w ss (k + 1) e) →
-        (if b then Some k else first_within w ss (k + 1) count) ≡ Some e → IsFirst w ss k e
-    by_first true here more is =
-        let same : k ≡ e = cc in record {
-          there = subst (λ j. meets w (step_at ss j) ≡ true) same here;
-          after = omega (arith, same);
-          first = λ t from to. absurd (omega (arith, same, from, to));
-        }
-    by_first false here more is =
-        let later = more is in
-        let after = later.after in record {
-          there = later.there;
-          after = omega (arith, after);
-          first = λ t from to. elim (cases_lt k t) [
-            | inl above ↦ later.first t (omega (arith, above)) to
-            | inr same ↦ subst (λ j. meets w (step_at ss j) ≡ false)
-                (let is : k ≡ t = omega (arith, from, same) in is) here
-          ];
-        }
+is_first w ss k (suc count) e is = elim (cases_Bool (meets w (step_at ss k))) [
+  | inl here ↦
+      let it : Some k ≡ Some e = rw here at is in
+      let same : k ≡ e = cc in
+      record { there = rw same at here; after = omega arith; first = λ t from to. absurd (omega arith) }
+  | inr other ↦
+      let later = is_first w ss (k + 1) count e (rw other at is) in
+      let after = later.after in record {
+        there = later.there;
+        after = omega arith;
+        first = λ t from to. elim (cases_eq k t) [
+          | inl same ↦ rw same at other
+          | inr apart ↦ later.first t (omega arith) to
+        ];
+      }
+]
 
 is_entered : (a : Act) → is_enter a ≡ true → a ≡ act.Enter
 is_entered act.Enter e = refl
@@ -108,25 +93,17 @@ module _ (r : Run) (listing : IsListing r.source) (valid : IsValidRun r) (i : �
 
   -- within a scan the link stays, or its process stops for good
   stays : (k t : ℕ) → t < most → meets (wanted.Leave i) (step_at ss t) ≡ false → Within k t → Within k (suc t)
-  stays k t less away h = by_process (nat_eq (process t) i) refl away
-    where
-      by_process : (b : Bool) → nat_eq (process t) i ≡ b → (b && is_leave (step_at ss t).act) ≡ false →
-          Within k (suc t)
-      by_process true is away =
-          let own = subst (λ (j : ℕ). ((m : ℕ) → is_leave (step_at ss t).act ≡ false →
-          link_in (process_at (state r t) j).status ≡ Some m →
-          (link_in (process_at (state r (suc t)) j).status ≡ Some m) ⊎ IsStuck (process_at (state r (suc t)) j).status)
-          × (IsStuck (process_at (state r t) j).status → IsStuck (process_at (state r (suc t)) j).status))
-          (eqb-true (process t) i is)
-          ((turn r t listing valid less).0.stays, (turn r t listing valid less).0.stuck) in
-          elim h [
-            | inl has ↦ own.0 k away has
-            | inr stuck ↦ inr (own.1 stuck)
-          ]
-      by_process false is away =
-          let same = (told r t listing valid less).others i one
-          (λ equal. eqb-false (process t) i is (sym equal)) in
-          subst (λ (p : Process). (link_in p.status ≡ Some k) ⊎ IsStuck p.status) (sym same) h
+  stays k t less away h = elim (cases_Bool (nat_eq (process t) i)) [
+    | inl is ↦
+        let own = rw (eqb-true (process t) i is) at (turn r t listing valid less).0 in
+        elim h [
+          | inl has ↦ own.stays k (rw is at away) has
+          | inr stuck ↦ inr (own.stuck stuck)
+        ]
+    | inr is ↦
+        subst (λ (p : Process). (link_in p.status ≡ Some k) ⊎ IsStuck p.status)
+        (sym ((told r t listing valid less).others i one (λ equal. eqb-false (process t) i is (sym equal)))) h
+  ]
 
   all_along : (k a e : ℕ) → e < most → ((t : ℕ) → a ≤ t → t < e → meets (wanted.Leave i) (step_at ss t) ≡ false) →
       Within k (suc a) → (t : ℕ) → a < t → t ≤ e → Within k t
@@ -143,14 +120,11 @@ module _ (r : Run) (listing : IsListing r.source) (valid : IsValidRun r) (i : �
   ends_leaves : (k t : ℕ) (view : List ℕ) → t < most → Ends r i (suc t) (Some k) view →
       meets (wanted.Leave i) (step_at ss t) ≡ true
   ends_leaves k t view less ends =
-      let is_his : process t ≡ i =
-      (turn r t listing valid less).1 ∙ ap who ends.0 in
+      let is_his : process t ≡ i = (turn r t listing valid less).1 ∙ ap who ends.0 in
       let line = line_returned (line_in r.source (status t)) (process_at (state r t) i).locals view ends.1 in
-      let leaves = subst (λ (j : ℕ). (y : Name) (m : ℕ) → item_at r (suc t) ≡ item.Step j →
-      line_in r.source (process_at (state r t) j).status ≡ Some (Return y) →
-      link_in (process_at (state r t) j).status ≡ Some m → is_leave (step_at ss t).act ≡ true) is_his
-      (turn r t listing valid less).0.returns line.0 k ends.0 line.1 ends.2 in
-      ap (λ b. b && is_leave (step_at ss t).act) (eq-eqb (process t) i is_his) ∙ leaves
+      let own = rw is_his at (turn r t listing valid less).0 in
+      ap (λ b. b && is_leave (step_at ss t).act) (eq-eqb (process t) i is_his)
+      ∙ own.returns line.0 k ends.0 line.1 ends.2
 
   -- the scan that begins at place a and whose first end is at place e
   pub scan_is : (d a e count : ℕ) → last_before (wanted.Enter i) ss d ≡ Some a →
@@ -163,13 +137,12 @@ module _ (r : Run) (listing : IsListing r.source) (valid : IsValidRun r) (i : �
       let his = and_parts (nat_eq (process a) i) (is_enter (step_at ss a).act) entered.1 in
       let its = and_parts (nat_eq (process e) i) (is_leave (step_at ss e).act) last.there in
       let start : a < most = omega (arith, before, after, less) in
-      let begins = subst (λ (j : ℕ). Begins r.source j (item_at r (suc a)) (process_at (state r a) j).status
-      (outcome_at r (suc a)) (process_at (state r (suc a)) j).status) (eqb-true (process a) i his.0)
-      ((turn r a listing valid start).0.enters (is_entered (step_at ss a).act his.1)) in
+      let first_turn = rw (eqb-true (process a) i his.0) at (turn r a listing valid start).0 in
+      let begins = first_turn.enters (is_entered (step_at ss a).act his.1) in
       let left = is_left (step_at ss e).act its.1 in
       let same : process e ≡ i = eqb-true (process e) i its.0 in
-      let ends = subst (λ (j : ℕ). Returns r.source j (item_at r (suc e)) (process_at (state r e) j).status left.0)
-      same ((turn r e listing valid less).0.leaves left.0 left.1) in
+      let last_turn = rw same at (turn r e listing valid less).0 in
+      let ends = last_turn.leaves left.0 left.1 in
       let link : link_in (status e) ≡ Some begins.link =
       elim (all_along begins.link a e less last.first (inl begins.has) e (omega (arith, before, after)) (omega arith)) [
         | inl has ↦ has
@@ -191,8 +164,7 @@ module _ (r : Run) (listing : IsListing r.source) (valid : IsValidRun r) (i : �
           order = omega (arith, before, after);
           ends = (
             ends.item,
-            subst (λ (f : Option Instr). ReturnsView f (process_at (state r e) i).locals (handed_view r e))
-                (sym ends.line) view,
+            rw ends.line view,
             link,
           );
         },

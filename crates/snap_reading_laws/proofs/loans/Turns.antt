@@ -19,7 +19,7 @@ use Rattle.snap_semantics.specs.declared.process.Cause.TheVariants as cause
 use Rattle.snap_semantics.specs.declared.process.Reason.{Reason}
 use Rattle.snap_semantics.specs.Source.{Source, Name, instr_at}
 use Rattle.snap_semantics.specs.State.{Locals, Memory, Process, State, nobody, process_at, value_at}
-use Rattle.snap_semantics.specs.Table.{return_goes, Effect, Goes, Answers, Finishes, call, call_skip, called, crash}
+use Rattle.snap_semantics.specs.Table.{return_goes, Effect, Goes, call, call_skip, called, crash}
 use Rattle.snap_semantics.specs.Table.{effect, effect_at, leave, step, done, who}
 use Rattle.snap_semantics.specs.Value.{Context}
 use Rattle.snap_acts.specs.Searches.{is_leave}
@@ -138,11 +138,7 @@ module _ (s : Source) (shape : Counts) (i : ℕ) where
             let same : j ≡ Return y = (let both : Some j ≡ Some (Return y) = sym there ∙ line in cc) in
             ap (λ (v : Instr). is_leave (stepped (intent_of_line c v) S' i)) same;
       })
-  leave_turn S a c j (Ok (Answers v)) one count there h fails =
-      stops Idle (own_status S S.memory (record { status = Idle; locals = (process_at S i).locals }) one count)
-      (λ is. absurd cc) (λ y is. absurd cc) (λ k has. none_some a.link k (h S) has) (λ none. absurd none)
-      (λ y k is line has. none_some a.link k (h S) has)
-  leave_turn S a c j (Ok Finishes) one count there h fails =
+  leave_turn S a c j (Ok _) one count there h fails =
       stops Idle (own_status S S.memory (record { status = Idle; locals = (process_at S i).locals }) one count)
       (λ is. absurd cc) (λ y is. absurd cc) (λ k has. none_some a.link k (h S) has) (λ none. absurd none)
       (λ y k is line has. none_some a.link k (h S) has)

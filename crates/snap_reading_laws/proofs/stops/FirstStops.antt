@@ -1,9 +1,9 @@
 -- `is_stop` holds of the debugger's stops and of nothing else; so `run` goes to the first stop after a position, and
 -- `rrun` back to the last one before it.
-use Rattle.std.proofs.Common.{◌≡◌, ℕ, zero, suc, ◌+◌, ◌-◌, ◌<◌, ◌≤◌, inl, inr, Bool, true, false, not, ◌||◌, List}
-use Rattle.std.proofs.Common.{length, nat_eq, if◌then◌else◌, refl, sym, ap, subst, ◌∙◌, arith}
+use Rattle.std.proofs.Common.{◌≡◌, ℕ, zero, suc, ◌+◌, ◌-◌, ◌<◌, ◌≤◌, inl, inr, true, false, not, List}
+use Rattle.std.proofs.Common.{length, nat_eq, refl, sym, ap, subst, ◌∙◌, arith}
 use Rattle.std.proofs.Math.Nat.{eq-or-lt_of_le}
-use Rattle.std.proofs.lemmas.Bool.{and_from, eq-eqb, eqb-true}
+use Rattle.std.proofs.lemmas.Bool.{and_from, cases_Bool, eq-eqb, eqb-true, or_cases, or_left, or_right}
 use Rattle.std.proofs.lemmas.List.Folds.{Any-from_list_any, list_any-from_Any}
 use Rattle.std.specs.List.{Any, list_any}
 use Rattle.snap_words.specs.declared.address.Address.{Address}
@@ -54,25 +54,21 @@ module _ (r : Run) (t : ℕ) where
       (let found : true ≡ false = sym h ∙ ap not equal in cc)
 
   is_changed : (a : Address) → Changes r t a → changes r t a ≡ true
-  is_changed a h = by_test (same_contents (contents_at (before r t) a) (contents_at (state r t) a)) refl
-    where
-      by_test : (b : Bool) → same_contents (contents_at (before r t) a) (contents_at (state r t) a) ≡ b → not b ≡ true
-      by_test true e = absurd (h (contents_are (contents_at (before r t) a) (contents_at (state r t) a) e))
-      by_test false e = refl
+  is_changed a h = elim (cases_Bool (same_contents (contents_at (before r t) a) (contents_at (state r t) a))) [
+    | inl e ↦ absurd (h (contents_are (contents_at (before r t) a) (contents_at (state r t) a) e))
+    | inr e ↦ rw e refl
+  ]
 
 -- where the test finds a stop, there is one
 stop_found : (r : Run) (m : Marks) (t : ℕ) → is_stop r m t ≡ true → IsStop r m t
-stop_found r m t h = by_breaks (list_any (reaches r t) m.breaks) refl
-  where
-    by_breaks : (b : Bool) → list_any (reaches r t) m.breaks ≡ b → IsStop r m t
-    by_breaks true e =
-        inl (any_so (λ b. reaches r t b ≡ true) (Reaches r t) m.breaks (reached r t)
-        (Any-from_list_any (reaches r t) m.breaks e))
-    by_breaks false e =
-        let rest : list_any (changes r t) m.watches ≡ true =
-        ap (λ b. b || list_any (changes r t) m.watches) (sym e) ∙ h in
-        inr (any_so (λ a. changes r t a ≡ true) (Changes r t) m.watches (changed r t)
-        (Any-from_list_any (changes r t) m.watches rest))
+stop_found r m t h = elim (or_cases (list_any (reaches r t) m.breaks) (list_any (changes r t) m.watches) h) [
+  | inl e ↦
+      inl (any_so (λ b. reaches r t b ≡ true) (Reaches r t) m.breaks (reached r t)
+      (Any-from_list_any (reaches r t) m.breaks e))
+  | inr e ↦
+      inr (any_so (λ a. changes r t a ≡ true) (Changes r t) m.watches (changed r t)
+      (Any-from_list_any (changes r t) m.watches e))
+]
 
 -- where there is a stop, the test finds it
 finds_stop : (r : Run) (m : Marks) (t : ℕ) → IsStop r m t → is_stop r m t ≡ true
@@ -80,16 +76,12 @@ finds_stop r m t (inl h) =
     let met : list_any (reaches r t) m.breaks ≡ true =
     list_any-from_Any (reaches r t) m.breaks
     (any_so (Reaches r t) (λ b. reaches r t b ≡ true) m.breaks (is_reached r t) h) in
-    ap (λ b. b || list_any (changes r t) m.watches) met
+    or_left (list_any (reaches r t) m.breaks) (list_any (changes r t) m.watches) met
 finds_stop r m t (inr h) =
     let met : list_any (changes r t) m.watches ≡ true =
     list_any-from_Any (changes r t) m.watches
     (any_so (Changes r t) (λ a. changes r t a ≡ true) m.watches (is_changed r t) h) in
-    last_true (list_any (reaches r t) m.breaks) (list_any (changes r t) m.watches) met
-  where
-    last_true : (a b : Bool) → b ≡ true → (a || b) ≡ true
-    last_true true b e = refl
-    last_true false b e = e
+    or_right (list_any (reaches r t) m.breaks) (list_any (changes r t) m.watches) met
 
 -- where the test finds no stop, there is none
 no_stop_there : (r : Run) (m : Marks) (t : ℕ) → is_stop r m t ≡ false → IsStop r m t → ⊥
@@ -126,18 +118,17 @@ first_of r m t zero e is = record {
   none = λ v low high stop. absurd (omega (arith, low, high));
   stops = λ lt. absurd (omega (arith, lt, is));
 }
-first_of r m t (suc more) e is = by_test (is_stop r m (suc t)) refl (first_of r m (suc t) more e (omega (arith, is)))
-  where
-    by_test : (b : Bool) → is_stop r m (suc t) ≡ b → IsFirstOf r m (suc t) e (next_stop r m (suc t) more) →
-        IsFirstOf r m t e (if b then suc t else next_stop r m (suc t) more)
-    by_test true met later = record {
-      after = λ lt. omega arith;
-      order = omega arith;
-      within = omega (arith, is);
-      none = λ v low high stop. absurd (omega (arith, low, high));
-      stops = λ lt. stop_found r m (suc t) met;
-    }
-    by_test false other later = one_before r m t e (next_stop r m (suc t) more) other later
+first_of r m t (suc more) e is = elim (cases_Bool (is_stop r m (suc t))) [
+  | inl met ↦ rw met (record {
+    after = λ lt. omega arith;
+    order = omega arith;
+    within = omega (arith, is);
+    none = λ v low high stop. absurd (omega (arith, low, high));
+    stops = λ lt. stop_found r m (suc t) met;
+  })
+  | inr other ↦
+      rw other (one_before r m t e (next_stop r m (suc t) more) other (first_of r m (suc t) more e (omega (arith, is))))
+]
 
 -- from a position of the run on
 first_stop : (r : Run) (m : Marks) (p : ℕ) → p ≤ length r.items →
@@ -171,17 +162,15 @@ last_stop_is r m zero = record {
   none_between = λ u low high is. absurd (omega (arith, low, high));
   is_stop = λ lt. absurd (omega (arith, lt));
 }
-last_stop_is r m (suc p) = by_test (is_stop r m p) refl (last_stop_is r m p)
-  where
-    by_test : (b : Bool) → is_stop r m p ≡ b → IsLastStop r m p (last_stop r m p) →
-        IsLastStop r m (suc p) (if b then p else last_stop r m p)
-    by_test true met earlier = record {
-      order = omega arith;
-      goes_back = λ lt. omega arith;
-      none_between = λ u low high is. absurd (omega (arith, low, high));
-      is_stop = λ lt. stop_found r m p met;
-    }
-    by_test false other earlier = one_behind r m p (last_stop r m p) other earlier
+last_stop_is r m (suc p) = elim (cases_Bool (is_stop r m p)) [
+  | inl met ↦ rw met (record {
+    order = omega arith;
+    goes_back = λ lt. omega arith;
+    none_between = λ u low high is. absurd (omega (arith, low, high));
+    is_stop = λ lt. stop_found r m p met;
+  })
+  | inr other ↦ rw other (one_behind r m p (last_stop r m p) other (last_stop_is r m p))
+]
 
 -- `rrun` goes there
 pub reverse_run_to_last : ReverseRunGoesToTheLastStop

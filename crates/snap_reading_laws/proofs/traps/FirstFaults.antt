@@ -1,5 +1,5 @@
 -- What is told of a line is the first of its operands that the process cannot take: `IsFirstFault`.
-use Rattle.std.proofs.Common.{◌≡◌, ℕ, zero, suc, ◌+◌, ◌-◌, ◌^◌, ◌<◌, List, [], ◌∷◌, ◌++◌, Option, Some, None, Result}
+use Rattle.std.proofs.Common.{◌≡◌, ℕ, zero, suc, ◌+◌, ◌^◌, ◌<◌, List, [], ◌∷◌, ◌++◌, Option, Some, None, Result}
 use Rattle.std.proofs.Common.{Ok, Err, Bool, true, false, if◌then◌else◌, map, take, nat_lt, refl, sym, ap, ◌∙◌, arith}
 use Rattle.std.specs.List.{range_with_len}
 use Rattle.snap_words.specs.Kind.{is_bit, may_write}
@@ -81,54 +81,37 @@ here_front : (c : Context) (xs ys : List Operand) → here c (xs ++ ys) ≡ here
 here_front c [] ys = refl
 here_front c (x ∷ xs) ys = ap (λ zs. (c, x) ∷ zs) (here_front c xs ys)
 
+-- what a test lets through or not
+tested : {A : Type 0} (b : Bool) (x : A) (c : Cause) (t : Trouble) →
+    (if b then None else Some t) ≡ told_where_none (if b then Ok x else Err c) t
+tested true x c t = refl
+tested false x c t = refl
+
 -- an index, a bit and an owner
 place_is : (kind : KindTag) (c : Context) (i : Index) (count : ℕ) →
     place_trouble c i count ≡ fault_of kind c (place i count)
-place_is kind c i count = elim (is_place count (index_value c i))
-    as (λ (b : Bool). (if b then None else Some (NoPlace i (index_value c i) count))
-    ≡ told_where_none (if b then Ok (index_value c i - 1) else Err cause.Index) (NoPlace i (index_value c i) count)) [
-      | true ↦ refl
-      | false ↦ refl
-    ]
+place_is kind c i count = tested (is_place count (index_value c i)) _ cause.Index (NoPlace i (index_value c i) count)
 
 number_is : (x : ℕ) → bit_trouble x ≡ told_where_none (bit_value x) (NoBit x)
-number_is x = elim (is_bit x)
-    as (λ (b : Bool). (if b then None else Some (NoBit x))
-    ≡ told_where_none (if b then Ok x else Err cause.NotABit) (NoBit x)) [
-      | true ↦ refl
-      | false ↦ refl
-    ]
+number_is x = tested (is_bit x) x cause.NotABit (NoBit x)
 
 owner_is : (kind : KindTag) (c : Context) (b : Bank) (i j : ℕ) →
     owner_trouble kind c b i j ≡ fault_of kind c (register b i j)
-owner_is kind c b i j = elim (may_write kind c.me b i)
-    as (λ (m : Bool). (if m then None else Some (NotOwn b i j))
-    ≡ told_where_none (if m then Ok (tt {0}) else Err cause.Owner) (NotOwn b i j)) [
-      | true ↦ refl
-      | false ↦ refl
-    ]
+owner_is kind c b i j = tested (may_write kind c.me b i) tt cause.Owner (NotOwn b i j)
 
 sum_is : (x y : ℕ) → sum_trouble x y ≡ told_where_none (checked_sum x y) (LargeSum x y)
-sum_is x y = elim (nat_lt (x + y) (2 ^ 64))
-    as (λ (b : Bool). (if b then None else Some (LargeSum x y))
-    ≡ told_where_none (if b then Ok (x + y) else Err cause.Overflow) (LargeSum x y)) [
-      | true ↦ refl
-      | false ↦ refl
-    ]
+sum_is x y = tested (nat_lt (x + y) (2 ^ 64)) (x + y) cause.Overflow (LargeSum x y)
 
 -- behind operands that can be taken
 sum_behind : (a b : Option Trouble) (x y : ℕ) (r s : Result ℕ Cause) → Gives a x r → Gives b y s →
     or_else a (or_else b (sum_trouble x y)) ≡ or_else a (or_else b (sum_fault r s))
-sum_behind None None x y r s h k =
-    sum_is x y ∙ ap (λ (u : Result ℕ Cause). sum_fault u (Ok y)) (sym h)
-    ∙ ap (λ (v : Result ℕ Cause). sum_fault r v) (sym k)
+sum_behind None None x y r s h k = rw (h, k) (sum_is x y)
 sum_behind None (Some t) x y r s h k = refl
 sum_behind (Some t) b x y r s h k = refl
 
 bit_behind : (a rest : Option Trouble) (x : ℕ) (r : Result ℕ Cause) → Gives a x r →
     or_else a (or_else (bit_trouble x) rest) ≡ or_else a (or_else (bit_fault r) rest)
-bit_behind None rest x r h =
-    ap (λ o. or_else o rest) (number_is x ∙ ap (λ (u : Result ℕ Cause). bit_fault u) (sym h))
+bit_behind None rest x r h = rw (h, number_is x) refl
 bit_behind (Some t) rest x r h = refl
 
 module _ (kind : KindTag) (c : Context) where

@@ -1,6 +1,7 @@
 -- In each state of a run no name has two sorts among the locals of a process, if none has two in the listing.
-use Rattle.std.proofs.Common.{◌≡◌, ℕ, Bool, true, false, ◌||◌, List, [], ◌∷◌, ◌++◌, Option, Some, None}
-use Rattle.std.proofs.Common.{option_map, if◌then◌else◌, ◌⊎◌, inl, inr, refl, sym, subst, ◌∙◌}
+use Rattle.std.proofs.Common.{◌≡◌, ℕ, false, List, [], ◌∷◌, ◌++◌, Option, Some, None}
+use Rattle.std.proofs.Common.{option_map, ◌⊎◌, inl, inr, refl, sym, ◌∙◌, arith}
+use Rattle.std.proofs.lemmas.Bool.{cases_Bool}
 use Rattle.std.specs.Prelude.{bytes_eq}
 use Rattle.std.proofs.Math.Logic.{⊎_map}
 use Rattle.std.proofs.lemmas.Slice.Eq.{bytes_eq-Decides}
@@ -57,12 +58,10 @@ behind x (z ∷ xs) ys h = behind x xs ys (right_false (bytes_eq x z) (is_among 
 
 apart : (x : Name) (xs ys : List Name) → AreDistinct (xs ++ ys) → (is_among x xs ≡ false) ⊎ (is_among x ys ≡ false)
 apart x [] ys h = inl refl
-apart x (z ∷ xs) ys h = by_name (bytes_eq x z) refl (apart x xs ys h.1) where
-  by_name : (b : Bool) → bytes_eq x z ≡ b → (is_among x xs ≡ false) ⊎ (is_among x ys ≡ false) →
-      ((b || is_among x xs) ≡ false) ⊎ (is_among x ys ≡ false)
-  by_name true is rest =
-      inr (subst (λ y. is_among y ys ≡ false) (sym ((bytes_eq-Decides x z).0 is)) (behind z xs ys h.0))
-  by_name false is rest = rest
+apart x (z ∷ xs) ys h = elim (cases_Bool (bytes_eq x z)) [
+  | inl is ↦ inr (rw ((bytes_eq-Decides x z).0 is) (behind z xs ys h.0))
+  | inr is ↦ rw is (apart x xs ys h.1)
+]
 
 -- at first
 has_at_first : (x : Name) (s : Source) (n : Counts) → AreDistinct (all_names s) →
@@ -88,11 +87,10 @@ from (Some v) = v
 
 value_from : {A : Type 0} (x : Name) (es : NameMap (List A)) → value_at x es [] ≡ from (find_name x es)
 value_from x [] = refl
-value_from x (e ∷ es) = elim (bytes_eq x e.0)
-    as (λ (b : Bool). (if b then e.1 else value_at x es []) ≡ from (if b then Some e.1 else find_name x es)) [
-      | true ↦ refl
-      | false ↦ value_from x es
-    ]
+value_from x (e ∷ es) = elim (cases_Bool (bytes_eq x e.0)) [
+  | inl is ↦ rw is refl
+  | inr is ↦ rw is (value_from x es)
+]
 
 -- the first of the values that a name has
 abbrev first_of : Option ℕ → Option (List ℕ) → Option (List Word) → Option (List ℕ) → Option LocalValue
@@ -102,20 +100,11 @@ first_of a b c d =
 
 row_from : (a : Option ℕ) (b : Option (List ℕ)) (c : Option (List Word)) (d : Option (List ℕ)) →
     (a ≡ None) ⊎ (b ≡ None) → row_in (first_of a b c d) ≡ from b
-row_from (Some n) (Some v) c d (inl e) = absurd cc
-row_from (Some n) (Some v) c d (inr e) = absurd cc
-row_from None None (Some w) d h = refl
-row_from None None None (Some v) h = refl
-row_from a b c d h = refl
+row_from a b c d h = grind arith
 
 words_from : (a : Option ℕ) (b : Option (List ℕ)) (c : Option (List Word)) (d : Option (List ℕ)) →
     (a ≡ None) ⊎ (c ≡ None) → (b ≡ None) ⊎ (c ≡ None) → words_in (first_of a b c d) ≡ from c
-words_from (Some n) b (Some w) d (inl e) k = absurd cc
-words_from (Some n) b (Some w) d (inr e) k = absurd cc
-words_from None (Some v) (Some w) d h (inl e) = absurd cc
-words_from None (Some v) (Some w) d h (inr e) = absurd cc
-words_from None None None (Some v) h k = refl
-words_from a b c d h k = refl
+words_from a b c d h k = grind arith
 
 -- in each state of a run
 pub one_sort : (r : Run) (t i : ℕ) → AreDistinct (all_names r.source) → HaveOneSort (process_at (state r t) i).locals

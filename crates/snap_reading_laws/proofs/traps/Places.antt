@@ -1,6 +1,7 @@
 -- What is told of the places of a quantifier, and of the word that a tuple writes, is what the table of lines takes.
-use Rattle.std.proofs.Common.{◌≡◌, ℕ, zero, suc, ◌+◌, ◌-◌, ◌&&◌, List, [], ◌∷◌, take, Option, Some, None, Result, Ok}
-use Rattle.std.proofs.Common.{Err, Bool, true, false, if◌then◌else◌, slice_index, refl, sym, ap, subst}
+use Rattle.std.proofs.Common.{◌≡◌, ℕ, zero, suc, ◌+◌, ◌-◌, List, [], ◌∷◌, take, Option, Some, None, Result, Ok}
+use Rattle.std.proofs.Common.{Err, if◌then◌else◌, slice_index, refl, sym, subst, inl, inr}
+use Rattle.std.proofs.lemmas.Bool.{cases_Bool}
 use Rattle.std.specs.List.{range_with_len, list_all}
 use Rattle.snap_words.specs.Kind.{is_bit}
 use Rattle.snap_words.specs.Shape.{Counts}
@@ -21,7 +22,6 @@ use Rattle.snap_why.specs.Troubles.{bit_trouble, bits_trouble, condition_trouble
 use Rattle.snap_why.specs.Troubles.{expr_number, expr_trouble, taker_at, tuple_trouble, values_trouble, where_trouble}
 use Rattle.snap_why.specs.declared.taker.Taker.{Taker}
 use Rattle.snap_why.specs.declared.trouble.Trouble.{Trouble}
-use Rattle.snap_why.specs.declared.trouble.Trouble.TheVariants.{NoBit}
 use Rattle.snap_reading_laws.proofs.traps.Values.{HaveOneSort, Gives, Takes, condition_takes, expr_gives, expr_takes}
 use Rattle.snap_reading_laws.proofs.traps.Values.{takes_last, takes_then}
 
@@ -44,8 +44,7 @@ conditions_take shape S t k p (suc more) h =
 -- the new values of so many places
 value_takes : (c : Context) (x : Name) (e : Expr) (k : Option Condition) → HaveOneSort c.locals →
     Takes (or_else (expr_trouble c e) (where_trouble c k)) (each_value c x e k)
-value_takes c x e None h =
-    subst (λ o. Takes o (expr_value c e)) (sym (or_none (expr_trouble c e))) (expr_takes c e h)
+value_takes c x e None h = rw (or_none (expr_trouble c e)) (expr_takes c e h)
 value_takes c x e (Some k) h =
     takes_then (expr_trouble c e) (condition_trouble c k) (expr_value c e) _ (expr_takes c e h)
     (λ v. takes_last (condition_trouble c k) (condition_holds c k)
@@ -67,45 +66,32 @@ values_take shape S t x e k p (suc more) h =
 -- bits
 bits_take : (xs : List ℕ) (w : Word) → Takes (bits_trouble xs) (if list_all is_bit xs then Ok w else Err cause.NotABit)
 bits_take [] w = (w, refl)
-bits_take (x ∷ xs) w = elim (is_bit x) as (λ (b : Bool). Takes (or_else (if b then None else Some (NoBit x))
-    (bits_trouble xs))
-    (if b && list_all is_bit xs then Ok w else Err cause.NotABit)) [
-      | true ↦ bits_take xs w
-      | false ↦ refl
-    ]
+bits_take (x ∷ xs) w = elim (cases_Bool (is_bit x)) [
+  | inl is ↦ rw is (bits_take xs w)
+  | inr is ↦ rw is refl
+]
 
 word_takes : (w : Word) → Takes (or_else (bit_trouble w.toggle) (bits_trouble w.handshakes)) (with_bits w)
-word_takes w = elim (is_bit w.toggle)
-    as (λ (b : Bool). Takes (or_else (if b then None else Some (NoBit w.toggle)) (bits_trouble w.handshakes))
-    (if b && list_all is_bit w.handshakes then Ok w else Err cause.NotABit)) [
-      | true ↦ bits_take w.handshakes w
-      | false ↦ refl
-    ]
+word_takes w = elim (cases_Bool (is_bit w.toggle)) [
+  | inl is ↦ rw is (bits_take w.handshakes w)
+  | inr is ↦ rw is refl
+]
 
 -- a word of two numbers, and one of three
 word_of_two : (o p q : Option Trouble) (x y : ℕ) (r s : Result ℕ Cause) (word : ℕ → ℕ → Word) → Gives o x r →
     Gives p y s →
     Takes q (with_bits (word x y)) →
     Takes (or_else o (or_else p q)) ((r >>= λ a. s >>= λ b. Ok (word a b)) >>= λ parts. with_bits parts)
-word_of_two None None q x y r s word h k l =
-    subst (λ u. Takes q ((u >>= λ a. s >>= λ b. Ok (word a b)) >>= λ parts. with_bits parts)) (sym h)
-    (subst (λ v. Takes q ((v >>= λ b. Ok (word x b)) >>= λ parts. with_bits parts)) (sym k) l)
-word_of_two None (Some t) q x y r s word h k l =
-    subst (λ u. Takes (Some t) ((u >>= λ a. s >>= λ b. Ok (word a b)) >>= λ parts. with_bits parts)) (sym h)
-    (ap (λ v. (v >>= λ b. Ok (word x b)) >>= λ parts. with_bits parts) k)
-word_of_two (Some t) p q x y r s word h k l = ap (λ u. (u >>= λ a. s >>= λ b. Ok
-    (word a b)) >>= λ parts. with_bits parts) h
+word_of_two None None q x y r s word h k l = rw (h, k) l
+word_of_two None (Some t) q x y r s word h k l = rw (h, k) refl
+word_of_two (Some t) p q x y r s word h k l = rw h refl
 
 word_of_three : (o p q z : Option Trouble) (x y u : ℕ) (r s v : Result ℕ Cause) (word : ℕ → ℕ → ℕ → Word) →
     Gives o x r → Gives p y s → Gives q u v → Takes z (with_bits (word x y u)) →
     Takes (or_else o (or_else p (or_else q z)))
     ((r >>= λ a. s >>= λ b. v >>= λ d. Ok (word a b d)) >>= λ parts. with_bits parts)
-word_of_three None p q z x y u r s v word h k l m =
-    subst (λ e. Takes (or_else p (or_else q z))
-    ((e >>= λ a. s >>= λ b. v >>= λ d. Ok (word a b d)) >>= λ parts. with_bits parts)) (sym h)
-    (word_of_two p q z y u s v (word x) k l m)
-word_of_three (Some t) p q z x y u r s v word h k l m =
-    ap (λ e. (e >>= λ a. s >>= λ b. v >>= λ d. Ok (word a b d)) >>= λ parts. with_bits parts) h
+word_of_three None p q z x y u r s v word h k l m = rw h (word_of_two p q z y u s v (word x) k l m)
+word_of_three (Some t) p q z x y u r s v word h k l m = rw h refl
 
 -- the words that tuples make
 abbrev word_with : (datum toggle : ℕ) (handshakes view : List ℕ) → Word

@@ -5,7 +5,7 @@ use Rattle.snap_semantics.specs.IsListing.{AreDistinct}
 use Rattle.snap_semantics.specs.Listing.{all_names}
 use Rattle.snap_semantics.specs.Source.{instr_at}
 use Rattle.snap_semantics.specs.State.{Locals, Memory, Process, State, nobody, process_at, with_process}
-use Rattle.snap_semantics.specs.Table.{Effect, Goes, Answers, Finishes, done, effect_at, leave, step}
+use Rattle.snap_semantics.specs.Table.{Effect, Finishes, done, effect_at, leave, step}
 use Rattle.snap_semantics.specs.declared.instr.Instr.{Instr}
 use Rattle.snap_semantics.specs.declared.process.Activity.{Activity}
 use Rattle.snap_semantics.specs.declared.process.Cause.{Cause}
@@ -68,9 +68,8 @@ cause_told (Some t) found c h is = cc
 trapped_by : (S : State) (i : ℕ) (a : Activity) (l : Locals) (found : Result Effect Cause) (c : Cause) →
     (leave S i a l found).1 ≡ outcomes.Trapped c →
     (found ≡ Err c) × ((leave S i a l found).0 ≡ with_process S i (record { status = Trapped c a; locals = l }))
-trapped_by S i a l (Ok (Goes m locals link line)) c h = absurd cc
-trapped_by S i a l (Ok (Answers v)) c h = absurd cc
 trapped_by S i a l (Ok Finishes) c h = absurd cc
+trapped_by S i a l (Ok _) c h = absurd cc
 trapped_by S i a l (Err d) c h =
     let same : d ≡ c = cc in (
       ap (λ e. Err e) same,

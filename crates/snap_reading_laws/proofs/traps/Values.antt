@@ -1,7 +1,8 @@
 -- What is told of the operands of a line, of its terms, expressions and conditions, is what the table of lines takes.
 use Rattle.std.proofs.Common.{◌≡◌, ℕ, ◌+◌, ◌-◌, ◌^◌, ◌<◌, Option, Some, None, Result, Ok, Err, Bool, true, false, []}
-use Rattle.std.proofs.Common.{min, nat_lt, if◌then◌else◌, slice_index, slice_index_or, refl, sym, ap, subst, ◌∙◌, arith}
-use Rattle.std.proofs.lemmas.Bool.{ltb-true}
+use Rattle.std.proofs.Common.{min, nat_lt, if◌then◌else◌, slice_index, slice_index_or, refl, sym, ap, ◌∙◌, arith}
+use Rattle.std.proofs.Common.{inl, inr}
+use Rattle.std.proofs.lemmas.Bool.{cases_Bool, ltb-true}
 use Rattle.std.proofs.lemmas.Grind.{common_steps}
 use Rattle.snap_words.specs.Kind.{field_of, is_bit, may_write}
 use Rattle.snap_words.specs.Shape.{is_place, places}
@@ -25,12 +26,11 @@ use Rattle.snap_semantics.specs.declared.instr.Index.{Index}
 use Rattle.snap_semantics.specs.declared.instr.Term.{Term}
 use Rattle.snap_semantics.specs.declared.instr.Term.TheVariants as term
 use Rattle.snap_semantics.specs.declared.process.Cause.{Cause}
-use Rattle.snap_semantics.specs.declared.process.Cause.TheVariants as cause
 use Rattle.snap_why.specs.Troubles.{bit_trouble, comparison_trouble, condition_trouble, expr_number, expr_trouble}
 use Rattle.snap_why.specs.Troubles.{negated, owner_trouble, place_trouble, sum_trouble, term_number, term_trouble}
 use Rattle.snap_why.specs.Troubles.{row_in, words_in}
 use Rattle.snap_why.specs.declared.trouble.Trouble.{Trouble}
-use Rattle.snap_why.specs.declared.trouble.Trouble.TheVariants.{NoPlace, LargeSum, NoBit, NotOwn}
+use Rattle.snap_why.specs.declared.trouble.Trouble.TheVariants.{NoPlace, NoBit, NotOwn}
 use Rattle.snap_reading_laws.specs.traps.Told.{trouble_cause}
 
 -- What is found under a name among all locals is what is found among those of its sort: no name has two sorts.
@@ -56,7 +56,7 @@ takes (Some t) v found h = h
 pub gives_then : {A B : Type 0} (o p : Option Trouble) (v : A) (w : B) (found : Result A Cause) (f : A →
     Result B Cause) →
     Gives o v found → Gives p w (f v) → Gives (or_else o p) w (found >>= f)
-gives_then None p v w found f h k = subst (λ r. Gives p w (r >>= f)) (sym h) k
+gives_then None p v w found f h k = rw h k
 gives_then (Some t) p v w found f h k = ap (λ r. r >>= f) h
 
 pub gives_last : {A B : Type 0} (o : Option Trouble) (v : A) (w : B) (found : Result A Cause) (f : A → Result B Cause) →
@@ -66,7 +66,7 @@ gives_last (Some t) v w found f h k = ap (λ r. r >>= f) h
 
 pub takes_then : {A B : Type 0} (o p : Option Trouble) (found : Result A Cause) (f : A → Result B Cause) →
     Takes o found → ((v : A) → Takes p (f v)) → Takes (or_else o p) (found >>= f)
-takes_then None p found f h k = subst (λ r. Takes p (r >>= f)) (sym h.1) (k h.0)
+takes_then None p found f h k = rw h.1 (k h.0)
 takes_then (Some t) p found f h k = ap (λ r. r >>= f) h
 
 pub takes_last : {A B : Type 0} (o : Option Trouble) (found : Result A Cause) (f : A → B) →
@@ -74,15 +74,16 @@ pub takes_last : {A B : Type 0} (o : Option Trouble) (found : Result A Cause) (f
 takes_last None found f h = (f h.0, ap (λ r. r >>= λ v. Ok (f v)) h.1)
 takes_last (Some t) found f h = ap (λ r. r >>= λ v. Ok (f v)) h
 
+-- a value that is let through by a test
+tested : {A : Type 0} (b : Bool) (v : A) (t : Trouble) →
+    Gives (if b then None else Some t) v (if b then Ok v else Err (trouble_cause t))
+tested true v t = refl
+tested false v t = refl
+
 -- a place
 pub place_gives : (c : Context) (i : Index) (count : ℕ) →
     Gives (place_trouble c i count) (index_value c i - 1) (place_in count (index_value c i))
-place_gives c i count = elim (is_place count (index_value c i))
-    as (λ (b : Bool). Gives (if b then None else Some (NoPlace i (index_value c i) count)) (index_value c i - 1)
-    (if b then Ok (index_value c i - 1) else Err cause.Index)) [
-      | true ↦ refl
-      | false ↦ refl
-    ]
+place_gives c i count = tested (is_place count (index_value c i)) _ (NoPlace i (index_value c i) count)
 
 -- a term, whose row and words are those of its names
 pub term_gives : (c : Context) (t : Term) → HaveOneSort c.locals → Gives (term_trouble c t) (term_number c t)
@@ -109,12 +110,10 @@ lesser : (x : ℕ) → x < 2 ^ 64 → min x (2 ^ 64 - 1) ≡ x
 lesser x h = grind (arith, common_steps, h)
 
 sum_gives : (x y : ℕ) → Gives (sum_trouble x y) (min (x + y) (2 ^ 64 - 1)) (checked_sum x y)
-sum_gives x y = go (nat_lt (x + y) (2 ^ 64)) refl where
-  go : (b : Bool) → nat_lt (x + y) (2 ^ 64) ≡ b →
-      Gives (if b then None else Some (LargeSum x y)) (min (x + y) (2 ^ 64 - 1))
-      (if b then Ok (x + y) else Err cause.Overflow)
-  go true h = ap (λ n. Ok n) (sym (lesser (x + y) (ltb-true (x + y) (2 ^ 64) h)))
-  go false h = refl
+sum_gives x y = elim (cases_Bool (nat_lt (x + y) (2 ^ 64))) [
+  | inl h ↦ rw h (ap (λ n. Ok n) (sym (lesser (x + y) (ltb-true (x + y) (2 ^ 64) h))))
+  | inr h ↦ rw h refl
+]
 
 pub expr_gives : (c : Context) (e : Expr) → HaveOneSort c.locals → Gives (expr_trouble c e) (expr_number c e)
     (expr_value c e)
@@ -147,16 +146,8 @@ condition_takes c _ h = search (takes_then, takes_last, comparison_takes) depth 
 
 -- a bit, and an owner
 pub bit_gives : (x : ℕ) → Gives (bit_trouble x) x (bit_value x)
-bit_gives x = elim (is_bit x)
-    as (λ (b : Bool). Gives (if b then None else Some (NoBit x)) x (if b then Ok x else Err cause.NotABit)) [
-      | true ↦ refl
-      | false ↦ refl
-    ]
+bit_gives x = tested (is_bit x) x (NoBit x)
 
 pub owner_gives : {A : Type 0} (kind : KindTag) (c : Context) (b : Bank) (i j : ℕ) (x : A) →
     Gives (owner_trouble kind c b i j) x (owned kind c b i x)
-owner_gives kind c b i j x = elim (may_write kind c.me b i)
-    as (λ (m : Bool). Gives (if m then None else Some (NotOwn b i j)) x (if m then Ok x else Err cause.Owner)) [
-      | true ↦ refl
-      | false ↦ refl
-    ]
+owner_gives kind c b i j x = tested (may_write kind c.me b i) x (NotOwn b i j)

@@ -1,9 +1,10 @@
 -- Text that is escaped for an SVG picture begins no tag, and is read back as it was.
 use Rattle.std.proofs.Common.{◌≡◌, ◌≢◌, ◌+◌, ◌*◌, ◌/◌, ◌%◌, ◌<◌, ℕ, List, [], ◌∷◌, ◌++◌, Bool, true, false}
 use Rattle.std.proofs.Common.{not, ◌&&◌, ◌||◌, nat_eq, nat_lt, if◌then◌else◌, codes}
-use Rattle.std.proofs.Common.{All, refl, subst, ap, ◌∙◌, arith}
+use Rattle.std.proofs.Common.{All, refl, subst, ap, ◌∙◌, arith, inl, inr}
 use Rattle.std.specs.List.{AllByRecursion}
-use Rattle.std.proofs.lemmas.Bool.{ltb-true, ltb-false, lt-ltb, le-ltb}
+use Rattle.std.proofs.lemmas.Bool.{cases_Bool}
+use Rattle.std.proofs.lemmas.Bool.Decides.{nat_tests}
 use Rattle.std.proofs.lemmas.List.Elements.{All-append, All-from_recursion, recursion_from_All}
 use Rattle.snap_picture.specs.Escape.{digit_value, escaped, escaped_byte, hex_digit, is_markup, is_printed, plane}
 use Rattle.snap_picture.specs.Escape.{reference, unescaped, unescaped_from}
@@ -14,11 +15,7 @@ not_less b h e = let bad : false ≡ true = subst (λ x. (is_printed x && not (i
 
 -- nor is a digit
 digit_not_less : (d : ℕ) → hex_digit d ≢ 60
-digit_not_less d = by_size (nat_lt d 10) refl
-  where
-    by_size : (t : Bool) → nat_lt d 10 ≡ t → (if t then 48 + d else 55 + d) ≢ 60
-    by_size true e h = let small = ltb-true d 10 e in omega (arith, small, h)
-    by_size false e h = let large = ltb-false d 10 e in omega (arith, large, h)
+digit_not_less d e = grind (arith, nat_tests)
 
 reference_no_tag : (b : ℕ) → AllByRecursion (λ x. x ≢ 60) (reference b)
 unfolding reference
@@ -26,47 +23,15 @@ reference_no_tag b = by_plane (is_markup b)
   where
     by_plane : (t : Bool) → AllByRecursion (λ x. x ≢ 60)
         (codes "&#x" ++ (if t then codes "00" else codes "E0") ++ hex_digit (b / 16) ∷ hex_digit (b % 16) ∷ 59 ∷ [])
-    by_plane true = (
-      (λ e. omega (arith, e)),
-      (
-        (λ e. omega (arith, e)),
-        (
-          (λ e. omega (arith, e)),
-          (
-            (λ e. omega (arith, e)),
-            (
-              (λ e. omega (arith, e)),
-              (digit_not_less (b / 16), (digit_not_less (b % 16), ((λ e. omega (arith, e)), tt))),
-            ),
-          ),
-        ),
-      ),
-    )
-    by_plane false = (
-      (λ e. omega (arith, e)),
-      (
-        (λ e. omega (arith, e)),
-        (
-          (λ e. omega (arith, e)),
-          (
-            (λ e. omega (arith, e)),
-            (
-              (λ e. omega (arith, e)),
-              (digit_not_less (b / 16), (digit_not_less (b % 16), ((λ e. omega (arith, e)), tt))),
-            ),
-          ),
-        ),
-      ),
-    )
+    by_plane true = search (arith, digit_not_less)
+    by_plane false = search (arith, digit_not_less)
 
 no_tag_byte : (b : ℕ) → AllByRecursion (λ x. x ≢ 60) (escaped_byte b)
 unfolding escaped_byte
-no_tag_byte b = by_form (is_printed b && not (is_markup b)) refl
-  where
-    by_form : (t : Bool) → (is_printed b && not (is_markup b)) ≡ t →
-        AllByRecursion (λ x. x ≢ 60) (if t then b ∷ [] else reference b)
-    by_form true e = (not_less b e, tt)
-    by_form false e = reference_no_tag b
+no_tag_byte b = elim (cases_Bool (is_printed b && not (is_markup b))) [
+  | inl e ↦ rw e (not_less b e, tt)
+  | inr e ↦ rw e (reference_no_tag b)
+]
 
 pub begins_no_tag : (text : List ℕ) → All (λ b. b ≢ 60) (escaped text)
 begins_no_tag [] = All-from_recursion (λ b. b ≢ 60) [] tt
@@ -75,17 +40,7 @@ begins_no_tag (b ∷ text) =
 
 -- a digit is read back
 digit_back : (d : ℕ) → d < 16 → digit_value (hex_digit d) ≡ d
-digit_back d few = by_size (nat_lt d 10) refl
-  where
-    by_size : (t : Bool) → nat_lt d 10 ≡ t → digit_value (if t then 48 + d else 55 + d) ≡ d
-    by_size true e =
-        let small = ltb-true d 10 e in
-        let below : nat_lt (48 + d) 58 ≡ true = lt-ltb (48 + d) 58 (omega (arith, small)) in
-        rw below (omega arith)
-    by_size false e =
-        let large = ltb-false d 10 e in
-        let above : nat_lt (55 + d) 58 ≡ false = le-ltb (55 + d) 58 (omega (arith, large)) in
-        rw above (omega arith)
+digit_back d few = grind (arith, nat_tests)
 
 -- a reference is read back
 reference_back : (t : Bool) (h l : ℕ) (rest : List ℕ) →
@@ -96,9 +51,7 @@ reference_back true h l rest = refl
 reference_back false h l rest = refl
 
 not_amp : (p t r : Bool) → (p && not (t || r)) ≡ true → t ≡ false
-not_amp p false r h = refl
-not_amp true true r h = absurd cc
-not_amp false true r h = absurd cc
+not_amp p t r h = grind arith
 
 plain_back : (b : ℕ) (rest : List ℕ) → nat_eq b 38 ≡ false → unescaped_from 0 0 (b ∷ rest) ≡ b ∷ unescaped_from 0 0 rest
 unfolding unescaped_from
@@ -113,16 +66,12 @@ digits_back b few =
 byte_back : (b : ℕ) (rest : List ℕ) → b < 256 →
     unescaped_from 0 0 (escaped_byte b ++ rest) ≡ b ∷ unescaped_from 0 0 rest
 unfolding escaped_byte reference
-byte_back b rest few = by_form (is_printed b && not (is_markup b)) refl
-  where
-    by_form : (t : Bool) → (is_printed b && not (is_markup b)) ≡ t →
-        unescaped_from 0 0
-        ((if t then b ∷ [] else (codes "&#x" ++ plane b ++ hex_digit (b / 16) ∷ hex_digit (b % 16) ∷ 59 ∷ [])) ++ rest)
-        ≡ b ∷ unescaped_from 0 0 rest
-    by_form true e = plain_back b rest (not_amp (is_printed b) (nat_eq b 38) _ e)
-    by_form false e =
-        reference_back (is_markup b) (hex_digit (b / 16)) (hex_digit (b % 16)) rest
-        ∙ ap (λ x. x ∷ unescaped_from 0 0 rest) (digits_back b few)
+byte_back b rest few = elim (cases_Bool (is_printed b && not (is_markup b))) [
+  | inl e ↦ rw e (plain_back b rest (not_amp (is_printed b) (nat_eq b 38) _ e))
+  | inr e ↦
+      rw e (reference_back (is_markup b) (hex_digit (b / 16)) (hex_digit (b % 16)) rest
+      ∙ ap (λ x. x ∷ unescaped_from 0 0 rest) (digits_back b few))
+]
 
 text_back : (text : List ℕ) → AllByRecursion (λ b. b < 256) text → unescaped_from 0 0 (escaped text) ≡ text
 unfolding unescaped_from

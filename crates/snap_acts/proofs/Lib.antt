@@ -1,4 +1,3 @@
 -- The proofs of snap_acts, by their modules.
-pub mod Firsts
 pub mod Scalars
 pub mod Traces

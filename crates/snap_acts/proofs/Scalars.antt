@@ -1,8 +1,6 @@
 -- A scalar of a process, looked up by its name (`local_value`), is the value of that name among the scalars.
-use Rattle.std.proofs.Common.{◌≡◌, ℕ, Bool, true, false, List, [], ◌∷◌, Option, Some, None, refl, sym, ap, ◌∙◌}
-use Rattle.std.proofs.Common.{option_map, bytes_eq, if◌then◌else◌}
+use Rattle.std.proofs.Common.{◌≡◌, ℕ, List, [], ◌∷◌, Option, Some, None, refl, sym, ap, ◌∙◌, arith}
 use Rattle.snap_words.specs.Word.{Word}
-use Rattle.snap_semantics.specs.Rules.{or_else}
 use Rattle.snap_semantics.specs.Readers.{LocalValue, NumberValue, RowValue, WordsValue}
 use Rattle.snap_semantics.specs.Readers.{ViewValue, find_name, local_value}
 use Rattle.snap_semantics.specs.Source.{Name}
@@ -19,26 +17,11 @@ or_zero (Some n) = n
 
 found : (x : Name) (named : NameMap ℕ) → value_at x named 0 ≡ or_zero (find_name x named)
 found x [] = refl
-found x (e ∷ es) = by_name (bytes_eq x e.0) (found x es)
-  where
-    by_name : (b : Bool) → value_at x es 0 ≡ or_zero (find_name x es) →
-        (if b then e.1 else value_at x es 0) ≡ or_zero (if b then Some e.1 else find_name x es)
-    by_name true rest = refl
-    by_name false rest = rest
-
-among : (a : Option ℕ) (b : Option (List ℕ)) (c : Option (List Word)) (d : Option (List ℕ)) →
-    or_zero a ≡ number_in (or_else (option_map (λ x. NumberValue x) a) (or_else (option_map (λ x. RowValue x) b)
-    (or_else (option_map (λ x. WordsValue x) c) (option_map (λ x. ViewValue x) d))))
-among (Some x) b c d = refl
-among None (Some x) c d = refl
-among None None (Some x) d = refl
-among None None None (Some x) = refl
-among None None None None = refl
+found x (e ∷ es) = grind (arith, found x es)
 
 -- the value of a scalar is the number that is found by its name
 scalar_value : (l : Locals) (x : Name) → value_at x l.scalars 0 ≡ number_in (local_value l x)
-scalar_value l x =
-    found x l.scalars ∙ among (find_name x l.scalars) (find_name x l.rows) (find_name x l.words) (find_name x l.views)
+scalar_value l x = grind (arith, found x l.scalars)
 
 -- a scalar has the name
 pub scalar_there : (l : Locals) (x : Name) (n : ℕ) → Some (NumberValue n) ≡ local_value l x → value_at x l.scalars 0 ≡ n

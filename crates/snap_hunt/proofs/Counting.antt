@@ -37,12 +37,9 @@ use Rattle.snap_hunt.proofs.Watching.{none_later, watches_next}
 
 -- a step that is skipped is none of a busy process
 skip_taken : (s : Status) (x : Item) (why : Reason) → MaySkip s x → is_taken x (Skipped why) ≡ (is_step x && is_busy s)
-skip_taken Idle (Step i) why may = refl
 skip_taken (Busy a) (Step i) why may = absurd may
-skip_taken (Trapped cause a) (Step i) why may = refl
-skip_taken (Crashed was) (Step i) why may = refl
-skip_taken s (Call i op) why may = refl
-skip_taken s (Crash i) why may = refl
+skip_taken _ (Step i) why may = refl
+skip_taken _ _ why may = refl
 
 -- An item over which a walk passes is no call, it is taken if it is a step of a busy process, and its process is busy
 -- as before.
@@ -50,17 +47,12 @@ untold_turn : {s s' : Status} {x : Item} {o : Outcome} (quiet : List Bool) → T
     is_untold (look quiet x s) o false ≡ true →
     (is_called o ≡ false) × (is_taken x o ≡ (is_step x && is_busy s)) × (is_busy s' ≡ is_busy s)
 untold_turn quiet (skipped s x why may) untold = (refl, skip_taken s x why may, refl)
-untold_turn quiet (calls i op line) untold = absurd cc
 untold_turn quiet (goes i a line link) untold = (refl, refl, refl)
-untold_turn quiet (answers i a view e) untold = absurd cc
-untold_turn quiet (finishes i a word value e) untold = absurd cc
-untold_turn quiet (traps i a cause) untold = absurd cc
-untold_turn quiet (crashes i s was) untold = absurd cc
+untold_turn quiet _ untold = absurd cc
 
 stepped_taken : (x : Item) → is_taken x Stepped ≡ is_step x
 stepped_taken (Step i) = refl
-stepped_taken (Call i op) = refl
-stepped_taken (Crash i) = refl
+stepped_taken _ = refl
 
 -- the item that comes next, and those behind it
 pub next_left : (r : Run) (t : ℕ) (x : Item) (xs ys : List Item) → t < length r.items → xs ≡ drop t r.items →
@@ -68,12 +60,6 @@ pub next_left : (r : Run) (t : ℕ) (x : Item) (xs ys : List Item) → t < lengt
 next_left r t x xs ys lt left is =
     let here : (x ∷ ys) ≡ (item r (suc t) ∷ drop (suc t) r.items) = sym is ∙ left ∙ drop-cons r.items t (Step 0) lt in
     (cc, cc)
-
--- of processes that an item is not of, it is known as before whether they are busy
-pub busy_beside : (r : Run) (t j : ℕ) → IsValidRun r → t < length r.items → IsOneOf r.shape.n j →
-    (who (item r (suc t)) ≡ j → ⊥) →
-    is_busy (process_at (state r (suc t)) j).status ≡ is_busy (process_at (state r t) j).status
-busy_beside r t j valid lt one other = ap is_busy (other_turn r valid t j lt one other)
 
 module _ (r : Run) (most t : ℕ) (quiet : List Bool) (c : StepCounter) (h : HasCounted r most t c)
     (u : IsUntold quiet false (way r t)) where
@@ -93,7 +79,7 @@ module _ (r : Run) (most t : ℕ) (quiet : List Bool) (c : StepCounter) (h : Has
       ∙ elim (cases_eq (who (item r (suc t))) j) [
         | inl same ↦ subst (λ k. is_busy (process_at (state r t) k).status
             ≡ is_busy (process_at (state r (suc t)) k).status) same (sym facts.2)
-        | inr other ↦ sym (busy_beside r t j h.valid u.left one other)
+        | inr other ↦ sym (ap is_busy (other_turn r h.valid t j u.left one other))
       ]
 
   -- the step of a busy process is counted
@@ -106,58 +92,27 @@ module _ (r : Run) (most t : ℕ) (quiet : List Bool) (c : StepCounter) (h : Has
       CountsSteps r most (suc t) owns' (or_else c.overrun later)
   step_counted k x owns' later number is runs set over =
       let y = item r (suc t) in
-      let o = outcome r (suc t) in
-      let i = who y in
       let runs' = rw is at runs in
-      let taken : is_taken y Stepped ≡ is_taken y o =
+      let taken : is_taken y Stepped ≡ is_taken y (outcome r (suc t)) =
       stepped_taken y ∙ (both (is_step y) _ runs').0 ∙ sym runs' ∙ sym facts.1 in
-      let same : (own : OwnSteps) → noted own (suc t) y Stepped ≡ noted own (suc t) y o =
-      λ own. ap (λ b. noted_if b (is_taken y Stepped) own (suc t) y) (sym facts.0)
-      ∙ ap (λ b. noted_if (is_called o) b own (suc t) y) taken in
-      let set' : (d : OwnSteps) → owns' ≡ slice_set c.owns.items (i - 1)
-      (noted (get_or c.owns.items (i - 1) d) (suc t) y Stepped) =
-      λ d. rw (number, is) at (set d) in
-      let over' : (d : OwnSteps) →
-      later ≡ overrun_by most (suc t) y Stepped (noted (get_or c.owns.items (i - 1) d) (suc t) y Stepped) =
-      λ d. rw (number, is) at (over d) in
       watches_next r most t c.owns.items owns' c.overrun later u.process
-      (λ d. set' d ∙ ap (slice_set c.owns.items (i - 1)) (same (get_or c.owns.items (i - 1) d)))
-      (λ d. over' d
-      ∙ ap (λ (own : OwnSteps). overrun_by most (suc t) y Stepped own) (same (get_or c.owns.items (i - 1) d))
-      ∙ ap (λ b. overrun most i (suc t) b (noted (get_or c.owns.items (i - 1) d) (suc t) y o)) taken)
-      h.steps
+      (λ d. rw (facts.0, ← taken) (rw (number, is) at (set d)))
+      (λ d. rw (facts.0, ← taken) (rw (number, is) at (over d))) h.steps
 
   -- nothing is counted of another item
   pub none_counted : (x : Item) → x ≡ item r (suc t) →
       (is_step x && is_busy (process_at (state r t) (who x)).status) ≡ false →
       CountsSteps r most (suc t) c.owns.items c.overrun
   none_counted x is runs =
-      let y = item r (suc t) in
-      let o = outcome r (suc t) in
-      let i = who y in
-      let untaken : is_taken y o ≡ false =
-      facts.1 ∙ subst (λ z. (is_step z && is_busy (process_at (state r t) (who z)).status) ≡ false) is runs in
-      let same : (own : OwnSteps) → noted own (suc t) y o ≡ own =
-      λ own. ap (λ b. noted_if b (is_taken y o) own (suc t) y) facts.0
-      ∙ ap (λ b. noted_if false b own (suc t) y) untaken in
-      subst (λ f. CountsSteps r most (suc t) c.owns.items f) (sym (none_later c.overrun))
-      (watches_next r most t c.owns.items c.owns.items c.overrun None u.process
-      (λ d. sym (set-get_or c.owns.items (i - 1) d)
-      ∙ ap (slice_set c.owns.items (i - 1)) (sym (same (get_or c.owns.items (i - 1) d))))
-      (λ d. sym (ap (λ b. overrun most i (suc t) b (noted (get_or c.owns.items (i - 1) d) (suc t) y o)) untaken))
-      h.steps)
-
--- some item is left
-pub some_left : (r : Run) (t : ℕ) (xs : List Item) → t < length r.items → xs ≡ drop t r.items → xs ≡ [] → ⊥
-some_left r t xs lt left none =
-    let clash : [] ≡ (item r (suc t) ∷ drop (suc t) r.items) =
-    sym none ∙ left ∙ drop-cons r.items t (Step 0) lt in
-    cc
+      let untaken : is_taken (item r (suc t)) (outcome r (suc t)) ≡ false = facts.1 ∙ (rw is at runs) in
+      rw (none_later c.overrun) (watches_next r most t c.owns.items c.owns.items c.overrun None u.process
+      (λ d. rw (facts.0, untaken) (sym (set-get_or c.owns.items (who (item r (suc t)) - 1) d)))
+      (λ d. rw untaken refl) h.steps)
 
 -- the items behind the one that comes next
 pub left_behind : (r : Run) (t : ℕ) (o : Option Item) (xs ys : List Item) → t < length r.items →
     xs ≡ drop t r.items → YieldsFirst (λ (zs : List Item). zs) xs o ys → ys ≡ drop (suc t) r.items
-left_behind r t None xs ys lt left gives = absurd (some_left r t xs lt left gives.0)
+left_behind r t None xs ys lt left gives = absurd (cc (drop-cons r.items t (Step 0) lt))
 left_behind r t (Some x) xs ys lt left gives = (next_left r t x xs ys lt left gives).1
 
 -- the items before the one that is told are counted
@@ -167,13 +122,9 @@ pub up_to_told : (w w' : Way) (p : Passed) (quiet : List Bool) (most : ℕ) (c n
     c.done ≤ p.number - 1 → HasCounted r most (p.number - 1) next) →
     HasCounted tells.between.run most tells.between.at next
 up_to_told w w' p quiet most c next h tells counted =
-    let v = tells.between in
-    let before : p.number - 1 ≡ v.at = omega arith in
-    let so : HasCounted w.run most (p.number - 1) next =
-    counted w.run quiet (subst (λ k. HasCounted w.run most k c) (sym h.done) h)
-    (λ t low high. tells.over.untold t (omega arith) (omega arith)) (omega arith) in
-    subst (λ (r : Run). HasCounted r most v.at next) (sym tells.over.run)
-    (subst (λ k. HasCounted w.run most k next) before so)
+    let before : p.number - 1 ≡ tells.between.at = omega arith in
+    rw (tells.over.run, ← before) (counted w.run quiet (subst (λ k. HasCounted w.run most k c) (sym h.done) h)
+    (λ t low high. tells.over.untold t (omega arith) (omega arith)) (omega arith))
 
 -- after the item that is told it is known again of each process whether it is busy
 pub busy_told : (v w' : Way) (p : Passed) (most : ℕ) (c : StepCounter) (b : Bool) → HasCounted v.run most v.at c →
@@ -185,64 +136,33 @@ busy_told v w' p most c b h is stands j one d =
     let i = who p.item in
     elim (cases_eq i j) [
       | inl same ↦
-          get_or-set_at c.busy.items (i - 1) (j - 1) b d (ap (λ m. m - 1) (sym same)) (omega arith)
-          ∙ stands
-          ∙ ap (λ (u : Way). is_busy (process_at (state u.run u.at) i).status) is.way
-          ∙ ap (λ m. is_busy (process_at (state v.run (suc v.at)) m).status) same
+          get_or-set_at c.busy.items (i - 1) (j - 1) b d (omega arith) (omega arith) ∙ (rw (is.way, same) at stands)
       | inr other ↦
           get_or-set_other c.busy.items (i - 1) (j - 1) b d (λ same. other (omega arith))
           ∙ h.busy j one d
-          ∙ sym (busy_beside v.run v.at j h.valid is.left one (λ same. other (ap who is.item ∙ same)))
+          ∙ sym (ap is_busy (other_turn v.run h.valid v.at j is.left one (λ same. other (ap who is.item ∙ same))))
     ]
-
--- the item that is told is counted
-pub told_counts : (v w' : Way) (p : Passed) (most : ℕ) (c c' : StepCounter) → HasCounted v.run most v.at c →
-    Passes v p w' →
-    c'.done ≡ c.done + 1 → c'.most ≡ c.most → c'.ahead ≡ drop (suc v.at) v.run.items →
-    CountsSteps w'.run most w'.at c'.owns.items c'.overrun → length c'.busy.items ≡ v.run.shape.n →
-    ((j : ℕ) → IsOneOf v.run.shape.n j → (d : Bool) →
-    get_or c'.busy.items (j - 1) d ≡ is_busy (process_at (state v.run (suc v.at)) j).status) →
-    HasCounted w'.run most w'.at c'
-told_counts v w' p most c c' h is done most_is left steps count busy =
-    let before = h.done in
-    subst (λ (u : Way). HasCounted u.run most u.at c') (sym is.way) (record {
-      valid = h.valid;
-      few = h.few;
-      done = omega (arith, done, before);
-      most_is = most_is ∙ h.most_is;
-      within = is.left;
-      left = left;
-      steps = subst (λ (u : Way). CountsSteps u.run most u.at c'.owns.items c'.overrun) is.way steps;
-      count = count;
-      busy = busy;
-    })
 
 -- Behind the last item that is told a walk passes over all others, which are counted then.
 module _ (w w' : Way) (quiet : List Bool) (most until : ℕ) (c : StepCounter) (h : HasCounted w.run most w.at c)
     (none : TellsNone quiet false w w') (end : until ≡ w'.at) where
-  counts_here : HasCounted w.run c.most c.done c
-  counts_here =
-      subst (λ m. HasCounted w.run m c.done c) (sym h.most_is) (subst (λ t. HasCounted w.run most t c) (sym h.done) h)
-
-  all_untold : AreUntold quiet w.run c.done until
-  all_untold = λ t low high. none.over.untold t (omega arith) (omega arith)
-
-  end_later : c.done ≤ until
-  end_later = omega arith
-
   -- what a counter asks for that is to pass over the others
   pub to_be_passed :
       (r : Run) × (quiet : List Bool) × HasCounted r c.most c.done c × AreUntold quiet r c.done until × (c.done ≤ until)
-  to_be_passed = (w.run, quiet, counts_here, all_untold, end_later)
+  to_be_passed = (
+    w.run,
+    quiet,
+    subst (λ m. HasCounted w.run m c.done c) (sym h.most_is) (subst (λ t. HasCounted w.run most t c) (sym h.done) h),
+    λ t low high. none.over.untold t (omega arith) (omega arith),
+    omega arith,
+  )
 
   -- what it has counted that passed over them
   pub all_counted : (next : StepCounter) →
       ((r : Run) (quiet : List Bool) → HasCounted r c.most c.done c → AreUntold quiet r c.done until →
       c.done ≤ until → HasCounted r c.most until next) →
       next.overrun ≡ many_steps most w'.run
+  unfolding to_be_passed
   all_counted next counted =
-      (counted w.run quiet counts_here all_untold end_later).steps.found_is
-      ∙ ap (λ m. first_found (overrun_at w.run m) until) h.most_is
-      ∙ ap (first_found (overrun_at w.run most)) end
-      ∙ ap (λ (r : Run). first_found (overrun_at r most) w'.at) (sym none.over.run)
-      ∙ ap (first_found (overrun_at w'.run most)) none.end
+      let found = (counted w.run quiet to_be_passed.2 to_be_passed.3 to_be_passed.4).steps.found_is in
+      rw (← none.end, ← end, none.over.run, ← h.most_is) found

@@ -1,26 +1,17 @@
 -- What is found where a run is judged, or where it is not; and verdicts that nobody asks for.
 use Rattle.std.proofs.Common.{◌≡◌, ℕ, Bool, true, false, List, Option, Some, None, is_some, length}
-use Rattle.std.proofs.Common.{if◌then◌else◌, refl, sym, ap, ◌∙◌}
-use Rattle.snap_words.specs.Shape.{IsOneOf}
+use Rattle.std.proofs.Common.{refl, arith}
 use Rattle.snap_runs.specs.Run.{Run}
 use Rattle.snap_runs.specs.declared.verdict.Verdict.{Verdict}
-use Rattle.snap_judge.specs.declared.judgements.Failing.TheVariants as failing
-use Rattle.snap_run_judge.specs.RunHistory.{history_of}
-use Rattle.snap_run_judge.specs.RunJudgement.{IsRunJudgement}
 use Rattle.snap_hunt.specs.declared.failures.Failure.{Failure}
 use Rattle.snap_hunt.specs.declared.failures.Wanted.{Wanted}
 use Rattle.snap_hunt.specs.Failing.{first_seen, many_of, no_point, of_collects, of_points}
 use Rattle.snap_hunt.specs.Finding.{Finds, IsJudgedIf}
 
-pub is_event : (r : Run) (k : ℕ) → IsRunJudgement 1000000 r (failing.At k) →
-    IsOneOf (length (history_of r).events) k
-is_event r k h = h.is_event
-
 -- what was judged, where something was found
 pub found_judged : (w : Wanted) (r : Run) (o : Option Failure) → IsJudgedIf w.linearizable r o → is_some o ≡ true →
     Finds w r o
-found_judged w r (Some f) h e = record { judged = Some f; is_judged = h; is = refl }
-found_judged w r None h e = absurd cc
+found_judged w r o h e = record { judged = o; is_judged = h; is = grind arith }
 
 -- what is seen is found, if nothing is judged to fail
 pub found_seen : (w : Wanted) (r : Run) (o found : Option Failure) → IsJudgedIf w.linearizable r o →
@@ -30,13 +21,8 @@ found_seen w r (Some f) found h e is = absurd cc
 
 -- verdicts do not matter where nobody asks for them
 pub no_points_asked : (w : Wanted) (vs us : List Verdict) → w.point ≡ false → of_points w vs ≡ of_points w us
-no_points_asked w vs us h =
-    ap (λ (b : Bool). if b then no_point vs else None) h ∙ sym (ap (λ (b : Bool). if b then no_point us else None) h)
-
-unasked : (o : Option ℕ) (vs us : List Verdict) → is_some o ≡ false → many_of vs o ≡ many_of us o
-unasked None vs us h = refl
-unasked (Some most) vs us h = absurd cc
+no_points_asked w vs us h = cc
 
 pub no_collects_asked : (w : Wanted) (vs us : List Verdict) → is_some w.collects ≡ false →
     of_collects w vs ≡ of_collects w us
-no_collects_asked w vs us h = unasked w.collects vs us h
+no_collects_asked w vs us h = grind arith

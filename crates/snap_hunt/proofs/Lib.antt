@@ -6,8 +6,6 @@ pub mod Counting
 pub mod Operations
 pub mod Judging
 pub mod Alike
-pub mod Ranges
-pub mod Numbers
 pub mod Cutting
 pub mod Sides
 pub mod Runs

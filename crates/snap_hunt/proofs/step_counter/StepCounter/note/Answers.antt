@@ -10,9 +10,9 @@ note_told-requires-after_bounds g c κs within =
     let p = c.args.passed.now in
     let w = c.requires.0 in
     let tells = c.requires.3 in
-    let v = tells.between in
     let next = c.pass.new.self in
     let h = up_to_told w c.args.walk.now p c.requires.1 s.most s next c.requires.2 tells c.pass.ensures.counted in
+    let v = tells.between in
     (v, subst (λ m. HasCounted v.run m v.at next) (sym h.most_is) h, tells.passes)
 
 pub returns-clause-counted : goal.returns-clause-counted

@@ -1,24 +1,15 @@
 -- `StepCounter::note_told` of snap_hunt (src/step_counter.rt).
-use Rattle.std.proofs.Common.{rules, ◌≡◌, ◌-◌, get_or, length, vec_len, refl, ap, ◌∙◌, arith}
-use Rattle.std.specs.Prelude.{slice_set}
+use Rattle.std.proofs.Common.{rules, ◌≡◌, ◌-◌, length, vec_len, refl, ◌∙◌, arith}
 use Rattle.std.proofs.lemmas.List.{length-set}
-use Rattle.snap_semantics.specs.State.{State, process_at}
-use Rattle.snap_semantics.specs.Table.{who}
-use Rattle.snap_walk.specs.Walking.{is_busy}
-use Rattle.snap_hunt.specs.Watching.{noted, overrun_by}
-use Rattle.snap_hunt.proofs.Counting.{busy_told, left_behind, told_counts}
-use Rattle.snap_hunt.proofs.Watching.{few_steps, is_counted, steps_passed}
+use Rattle.snap_hunt.proofs.Counting.{busy_told, left_behind}
+use Rattle.snap_hunt.proofs.Watching.{few_steps, watches_next}
 use Rattle.snap_hunt.proofs.step_counter.StepCounter.note_told.Goals as goal
 
 pub overflow_add-self : goal.overflow_add-self
-overflow_add-self g c =
-    let h = c.requires.1 in omega (arith, h.done, h.few, h.within)
+overflow_add-self g c = omega (arith, c.requires.1.done, c.requires.1.few, c.requires.1.within)
 
 pub note-found-requires-clause-process : goal.note-found-requires-clause-process
-note-found-requires-clause-process g c =
-    let s = c.args.self.now in
-    is_counted c.requires.0 c.args.walk.now c.args.passed.now s.most s.owns.items s.overrun c.requires.2
-    c.requires.1.steps
+note-found-requires-clause-process g c = rw c.requires.1.steps.count c.requires.2.process
 
 pub note-found-requires-clause-few : goal.note-found-requires-clause-few
 note-found-requires-clause-few g c =
@@ -36,26 +27,26 @@ index_mut-requires g c =
 pub returns-clause-counted : goal.returns-clause-counted
 returns-clause-counted g c =
     let s = c.args.self.now in
-    let p = c.args.passed.now in
     let v = c.requires.0 in
-    let w' = c.args.walk.now in
     let is = c.requires.2 in
     let h = c.requires.1 in
     let i = c.who-process.result in
     let b = c.is_busy.result in
-    told_counts v w' p s.most s _ h is refl refl
-    (left_behind v.run v.at c.next-told.result s.ahead c.next-told.new.self is.left h.left
-    c.next-told.ensures.steps)
-    (steps_passed v w' p s.most s.owns.items c.note-found.new.owns.items s.overrun c.note-found.result
-    c.first-self.result is c.note-found.ensures.owns
-    (λ d. c.note-found.ensures.result d
-    ∙ ap (λ m. overrun_by m p.number p.item p.outcome
-    (noted (get_or s.owns.items (who p.item - 1) d) p.number p.item p.outcome)) h.most_is)
-    c.first-self.ensures h.steps)
-    (length-set s.busy.items (i - 1) b ∙ h.count)
-    (λ j one d. ap (λ k. get_or (slice_set s.busy.items (k - 1) b) (j - 1) d) c.who-process.ensures
-    ∙ busy_told v w' p s.most s b h is
-    (c.is_busy.ensures
-    ∙ ap is_busy (c.status.ensures
-    ∙ ap (λ k. (process_at c.machine.result.now.state k).status) c.who-process.ensures
-    ∙ ap (λ (S : State). (process_at S (who p.item)).status) c.machine.ensures.state)) j one d)
+    rw is.way (record {
+      valid = h.valid;
+      few = h.few;
+      done = omega (arith, h.done);
+      most_is = h.most_is;
+      within = is.left;
+      left =
+          left_behind v.run v.at c.next-told.result s.ahead c.next-told.new.self is.left h.left
+          c.next-told.ensures.steps;
+      steps =
+          rw c.first-self.ensures (watches_next v.run s.most v.at s.owns.items c.note-found.new.owns.items s.overrun
+          c.note-found.result (rw is.item at is.process)
+          (λ d. rw (is.outcome, is.item, is.number) at (c.note-found.ensures.owns d))
+          (λ d. rw (is.outcome, is.item, is.number) at (c.note-found.ensures.result d)) h.steps);
+      count = length-set s.busy.items (i - 1) b ∙ h.count;
+      busy = λ j one d. rw c.who-process.ensures (busy_told v c.args.walk.now c.args.passed.now s.most s b h is
+          (rw (c.is_busy.ensures, c.status.ensures, c.who-process.ensures, c.machine.ensures.state) refl) j one d);
+    })

@@ -12,7 +12,7 @@ invariant-loop-self l = record {
   most : l.self.most ≡ l.fn.self.most;
   counted :
       (r : Run) (quiet : List Bool) → HasCounted r l.fn.self.most l.fn.self.done l.fn.self →
-      AreUntold quiet r l.fn.self.done l.until → HasCounted r l.fn.self.most l.self.done l.self;
+      AreUntold quiet r l.fn.self.done l.until → HasCounted r l.self.most l.self.done l.self;
 }
 
 abbrev pub decreases-loop-self : goal.decreases-loop-self

@@ -1,1 +1,0 @@
--- `verdicts_for` of snap_hunt (src/failing.rt): the proof of what its contract says.

@@ -1,6 +1,4 @@
 -- The lemmas of snap_judge_reasons, by their modules.
-pub mod Loops
-pub mod Lines
 pub mod Origins
 pub mod Refuting
 pub mod Fronts

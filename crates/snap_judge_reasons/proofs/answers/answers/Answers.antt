@@ -1,10 +1,7 @@
 -- `answers` of snap_judge_reasons (src/answers.rt).
-use Rattle.std.proofs.Common.{◌-◌, ◌∙◌, ap, subst, sym}
+use Rattle.std.proofs.Common.{◌-◌, ◌∙◌, ap}
 use Rattle.std.proofs.lemmas.Result.{IfOk-weaker}
-use Rattle.snap_semantics.specs.declared.event.Event.{Event}
-use Rattle.snap_judge.specs.History.{History, IsHistory}
-use Rattle.snap_judge.specs.Linearizable.{last_of}
-use Rattle.snap_judge_reasons.specs.RightAnswers.{AreRightNext, followed_by}
+use Rattle.snap_judge.specs.History.{History}
 use Rattle.snap_judge.proofs.KeptSteps.{history_up_to}
 use Rattle.snap_judge_reasons.proofs.Fronts.{answering_history}
 use Rattle.snap_judge_reasons.proofs.NextAnswers.{right_in_place}

@@ -1,9 +1,9 @@
 -- The invariant of an audit that goes through the events of a run (`Sweeps`): what it keeps of each process, and the
 -- verdicts up to then.
-use Rattle.std.proofs.Common.{◌≡◌, ℕ, suc, ◌+◌, ◌-◌, ◌<◌, ◌≤◌, Bool, true, false, List, [], ◌∷◌, ◌++◌, length, map}
-use Rattle.std.proofs.Common.{drop, get_or, nat_eq, replicate, slice_index, slice_set, refl, sym, ap, subst, ◌∙◌}
-use Rattle.std.proofs.Common.{append_assoc, arith}
-use Rattle.std.proofs.lemmas.Bool.{eqb-true, eqb-false}
+use Rattle.std.proofs.Common.{◌≡◌, ℕ, suc, ◌+◌, ◌-◌, ◌<◌, ◌≤◌, List, [], ◌∷◌, ◌++◌, length, map}
+use Rattle.std.proofs.Common.{drop, get_or, replicate, slice_index, slice_set, refl, sym, ap, subst, ◌∙◌}
+use Rattle.std.proofs.Common.{append_assoc, arith, inl, inr}
+use Rattle.std.proofs.lemmas.Bool.{cases_eq}
 use Rattle.std.proofs.lemmas.Grind.{get_or-set_at}
 use Rattle.std.proofs.lemmas.List.{get_or-map, get_or-set_other, length-set}
 use Rattle.std.proofs.lemmas.List.{length-replicate, get_or-replicate, map-set}
@@ -13,12 +13,12 @@ use Rattle.snap_semantics.specs.declared.event.Event.{Event}
 use Rattle.snap_semantics.specs.declared.event.Happening.{Happening}
 use Rattle.snap_semantics.specs.declared.event.Happening.TheVariants.{Call, Answer}
 use Rattle.snap_semantics.specs.declared.process.Op.{Op}
-use Rattle.snap_runs.specs.Audit.{audit, least_point, verdict_of}
+use Rattle.snap_runs.specs.Audit.{audit, verdict_of}
 use Rattle.snap_runs.specs.Run.{Run, IsValidRun, events_of}
 use Rattle.snap_runs.specs.Scan.{double_collects, ends_double_collect}
 use Rattle.snap_runs.specs.declared.verdict.Verdict.{Verdict}
 use Rattle.snap_runs.proofs.Embedding.{map_same}
-use Rattle.snap_record.specs.History.{IsRising, IsWithin, LeadsAlong, collects_at, values_by}
+use Rattle.snap_record.specs.History.{LeadsAlong, collects_at, values_by}
 use Rattle.snap_record.specs.declared.history.Change.{Change}
 use Rattle.snap_record.proofs.Counts.{count_split}
 use Rattle.snap_record.proofs.Events.{all_events, all_within_run, rising_run}
@@ -39,25 +39,18 @@ all_past (e ∷ es) = (omega arith, all_past es)
 -- at the start all events are left
 pub started : (r : Run) (xs : List Change) (cs : List Caller) (es : List Event) → IsValidRun r → LeadsAlong r xs →
     cs ≡ replicate r.shape.n (fresh r.shape.w) → es ≡ events_of r (length r.items) → Sweeps r xs cs [] es
-started r xs cs es fits leads new all =
-    subst (λ (l : List Caller). Sweeps r xs l [] es) (sym new)
-    (let whole : Sweeps r xs (replicate r.shape.n (fresh r.shape.w)) [] es = record {
-      goes_on =
-          ap (λ calls. by_events r calls es) (map_same (λ (c : Caller). c.call) r.shape.n (fresh r.shape.w))
-          ∙ ap (by_events r (replicate r.shape.n 0)) all ∙ audit_by_events r fits;
-      count = length-replicate r.shape.n (fresh r.shape.w);
-      each = λ i one d.
-          let low : 0 < i = one.0 in
-          let high : i ≤ r.shape.n = one.1 in
-          let here : IsCaller r xs es i (fresh r.shape.w) =
-          record { follows = λ u le top. leads u top; past = all_past es; collects_are = refl } in
-          subst (IsCaller r xs es i)
-          (sym (get_or-replicate r.shape.n (i - 1) (fresh r.shape.w) d (omega (arith, low, high)))) here;
-      within =
-          subst (λ (l : List Event). AllByRecursion (IsWithin r.shape.n (length r.items)) l)
-          (sym (all ∙ all_events r)) (all_within_run r fits);
-      rises = subst (λ (l : List Event). IsRising l) (sym (all ∙ all_events r)) (rising_run r);
-    } in whole)
+started r xs cs es fits leads new all = rw new (record {
+  goes_on =
+      ap (λ calls. by_events r calls es) (map_same (λ (c : Caller). c.call) r.shape.n (fresh r.shape.w))
+      ∙ ap (by_events r (replicate r.shape.n 0)) all ∙ audit_by_events r fits;
+  count = length-replicate r.shape.n (fresh r.shape.w);
+  each = λ i one d.
+      let here : IsCaller r xs es i (fresh r.shape.w) =
+      record { follows = λ u le top. leads u top; past = all_past es; collects_are = refl } in
+      rw (get_or-replicate r.shape.n (i - 1) (fresh r.shape.w) d (omega arith)) here;
+  within = rw (all, all_events) (all_within_run r fits);
+  rises = rw (all, all_events) (rising_run r);
+})
 
 -- the double collects at it
 pub collects_left : (r : Run) (es : List Event) (ks : List ℕ) (k d : ℕ) (e : Event) → ks ≡ map (collects_at r) es →
@@ -69,7 +62,7 @@ module _ (r : Run) (xs : List Change) (cs : List Caller) (found : List Verdict) 
     (h : Sweeps r xs cs found (e ∷ left)) where
   -- the process of the event
   pub its_process : IsOneOf (length cs) e.process
-  its_process = subst (λ m. IsOneOf m e.process) (sym h.count) h.within.0.0
+  its_process = rw h.count h.within.0.0
 
   -- what is kept of it
   its_caller : (d : Caller) → IsCaller r xs (e ∷ left) e.process (get_or cs (e.process - 1) d)
@@ -91,8 +84,7 @@ module _ (r : Run) (xs : List Change) (cs : List Caller) (found : List Verdict) 
 
   -- no fewer double collects than at the last call
   pub its_collects : (k : ℕ) → k ≡ collects_at r e → (d : Caller) → (get_or cs (e.process - 1) d).collects ≤ k
-  its_collects k is d =
-      (let all = since d in let before = (its_caller d).collects_are in omega (arith, all, before, is))
+  its_collects k is d = let all = since d in let before = (its_caller d).collects_are in omega arith
 
   -- what is kept of a process that the event leaves
   passed : (i : ℕ) (c : Caller) → IsCaller r xs (e ∷ left) i c → IsCaller r xs left i c
@@ -102,18 +94,11 @@ module _ (r : Run) (xs : List Change) (cs : List Caller) (found : List Verdict) 
   remaining : (w : Happening) → e.what ≡ w →
       found ++ (verdicts_at r e.process (slice_index (calls_of cs) (e.process - 1)) e.item w
       ++ by_events r (calls_after (calls_of cs) e.process e.item w) left) ≡ audit r
-  remaining w is =
-      ap (λ y. found ++ (verdicts_at r e.process (slice_index (calls_of cs) (e.process - 1)) e.item y
-      ++ by_events r (calls_after (calls_of cs) e.process e.item y) left)) (sym is)
-      ∙ h.goes_on
+  remaining w is = rw is at h.goes_on
 
   -- the item of the last call
   call_there : (d : Caller) → slice_index (calls_of cs) (e.process - 1) ≡ (get_or cs (e.process - 1) d).call
-  call_there d =
-      let one = its_process in
-      let low : 0 < e.process = one.0 in
-      let high : e.process ≤ length cs = one.1 in
-      get_or-map (λ (c : Caller). c.call) cs (e.process - 1) d 0 (omega (arith, low, high))
+  call_there d = let one = its_process in get_or-map (λ (c : Caller). c.call) cs (e.process - 1) d 0 (omega arith)
 
   -- an answer
   pub answer_swept : (view : List ℕ) (v : Verdict) (k : ℕ) (d : Caller) → e.what ≡ Answer view → k ≡ collects_at r e →
@@ -132,20 +117,10 @@ module _ (r : Run) (xs : List Change) (cs : List Caller) (found : List Verdict) 
       let order = its_order d in
       let last = its_item in
       let point = least_is r c.values (drop c.next xs) view c.call (suc (e.item - c.call))
-      (λ u low high. mine.follows u low (omega (arith, high, order, last))) in
+      (λ u low high. mine.follows u low (omega arith)) in
       let collects : k - c.collects ≡ double_collects r e.process c.call e.item =
-      (let all = since d in let before = mine.collects_are in omega (arith, all, before, counted)) in
-      let same : v ≡ verdict_of r e.process c.call e.item view =
-      given
-      ∙ ap (λ p. let w : Verdict =
-      record { process = e.process; call = c.call; answer = e.item; point = p; collects = k - c.collects } in w) point
-      ∙ ap (λ m. let w : Verdict = record {
-        process = e.process;
-        call = c.call;
-        answer = e.item;
-        point = least_point r view c.call (suc (e.item - c.call));
-        collects = m;
-      } in w) collects in
+      (let all = since d in let before = mine.collects_are in omega arith) in
+      let same : v ≡ verdict_of r e.process c.call e.item view = rw (point, collects) at given in
       record {
         goes_on =
             append_assoc found (v ∷ []) (by_events r (calls_of cs) left)
@@ -159,24 +134,18 @@ module _ (r : Run) (xs : List Change) (cs : List Caller) (found : List Verdict) 
       }
 
   -- once a process is called, what is kept of each
-  set_caller : (c : Caller) (i : ℕ) (b : Bool) (d : Caller) → nat_eq e.process i ≡ b → IsOneOf r.shape.n i →
-      IsCaller r xs left e.process c → IsCaller r xs left i (get_or (slice_set cs (e.process - 1) c) (i - 1) d)
-  set_caller c i true d same one now =
-      let is : e.process ≡ i = eqb-true e.process i same in
+  set_caller : (c : Caller) (i : ℕ) (d : Caller) → IsOneOf r.shape.n i → IsCaller r xs left e.process c →
+      IsCaller r xs left i (get_or (slice_set cs (e.process - 1) c) (i - 1) d)
+  set_caller c i d one now =
       let there = its_process in
-      let low : 0 < e.process = there.0 in
-      let high : e.process ≤ length cs = there.1 in
-      subst (IsCaller r xs left i)
-      (sym (get_or-set_at cs (e.process - 1) (i - 1) c d (ap (λ y. y - 1) (sym is)) (omega (arith, low, high))))
-      (subst (λ j. IsCaller r xs left j c) is now)
-  set_caller c i false d same one now =
-      let differ : (e.process ≡ i) → ⊥ = eqb-false e.process i same in
-      let there = its_process in
-      let low : 0 < e.process = there.0 in
-      let pos : 0 < i = one.0 in
-      subst (IsCaller r xs left i)
-      (sym (get_or-set_other cs (e.process - 1) (i - 1) c d (λ y. differ (omega (arith, y, low, pos)))))
-      (passed i (get_or cs (i - 1) d) (h.each i one d))
+      elim (cases_eq e.process i) [
+        | inl same ↦
+            rw (get_or-set_at cs (e.process - 1) (i - 1) c d (omega arith) (omega arith))
+            (subst (λ j. IsCaller r xs left j c) same now)
+        | inr differ ↦
+            rw (get_or-set_other cs (e.process - 1) (i - 1) c d (λ same. differ (omega arith)))
+            (passed i (get_or cs (i - 1) d) (h.each i one d))
+      ]
 
   -- a call
   pub call_swept : (op : Op) (c : Caller) (k : ℕ) (d : Caller) → e.what ≡ Call op → k ≡ collects_at r e →
@@ -187,10 +156,8 @@ module _ (r : Run) (xs : List Change) (cs : List Caller) (found : List Verdict) 
       let mine = its_caller d in
       let order = its_order d in
       let now : IsCaller r xs left e.process c = record {
-        follows =
-            λ u low top.
-            mine.follows u (omega (arith, low, call, order)) top ∙ sym (later u (omega (arith, low, call)));
-        past = subst (λ t. AllByRecursion (λ (f : Event). t ≤ f.item) left) (sym call) h.rises.0;
+        follows = λ u low top. mine.follows u (omega arith) top ∙ sym (later u (omega arith));
+        past = rw call h.rises.0;
         collects_are = collects ∙ counted ∙ ap (double_collects r e.process 0) (sym call);
       } in
       record {
@@ -199,7 +166,7 @@ module _ (r : Run) (xs : List Change) (cs : List Caller) (found : List Verdict) 
             ∙ ap (slice_set (calls_of cs) (e.process - 1)) call)
             ∙ remaining (Call op) is;
         count = length-set cs (e.process - 1) c ∙ h.count;
-        each = λ i one b. set_caller c i (nat_eq e.process i) b refl one now;
+        each = λ i one b. set_caller c i b one now;
         within = h.within.1;
         rises = h.rises.1;
       }

@@ -1,10 +1,8 @@
 -- `audit_over` of snap_audit (src/sweep.rt): the proof of what its contract says.
-use Rattle.std.proofs.Common.{◌≡◌, IfOk, Vec, false, subst, ◌∙◌}
+use Rattle.std.proofs.Common.{◌≡◌, IfOk, false, subst, ◌∙◌}
 use Rattle.std.proofs.lemmas.Result.{IfOk-weaker}
-use Rattle.std.specs.Global.{Global}
 use Rattle.snap_runs.specs.Audit.{audit}
 use Rattle.snap_runs.specs.Run.{Run}
-use Rattle.snap_runs.specs.declared.verdict.Verdict.{Verdict}
 use Rattle.snap_walk.specs.Walk.{Way}
 use Rattle.snap_audit.specs.Watch.{Watches, so_far}
 use Rattle.snap_audit.proofs.Watches.{fewer_left, same_run, silent_here, watched_all, whole_way}
@@ -28,34 +26,26 @@ pub loop-watch-preserved : goal.loop-watch-preserved
 loop-watch-preserved g c =
     let told = rw c.in-Some.is at c.in_ok-passed.ensures.told in
     record {
-      run =
-          same_run c.silent_lines.result.now false c.loop-watch.walk c.next_told.new.self c.in-Some.passed told
-          ∙ c.loop-watch.invariant.run;
+      run = same_run _ _ _ _ _ told ∙ c.loop-watch.invariant.run;
       watches = c.in_ok-note.ensures.watches;
     }
 
 pub loop-watch-smaller : goal.loop-watch-smaller
-loop-watch-smaller g c =
-    fewer_left c.silent_lines.result.now false c.loop-watch.walk c.next_told.new.self c.in-Some.passed
-    (rw c.in-Some.is at c.in_ok-passed.ensures.told)
+loop-watch-smaller g c = fewer_left _ _ _ _ _ (rw c.in-Some.is at c.in_ok-passed.ensures.told)
 
 pub verdicts-requires : goal.verdicts-requires
 verdicts-requires g c =
     let none = rw c.in_default.is at c.in_ok-passed.ensures.told in (
       c.next_told.new.self,
-      watched_all c.silent_lines.result.now false c.loop-watch.watch c.loop-watch.walk c.next_told.new.self
-          c.silent_lines.ensures none c.loop-watch.invariant.watches,
+      watched_all _ _ _ _ _ c.silent_lines.ensures none c.loop-watch.invariant.watches,
     )
 
 pub returns : goal.returns
 returns g c =
     let w = c.next_told.new.self in
     let none = rw c.in_default.is at c.in_ok-passed.ensures.told in
-    let watches =
-    watched_all c.silent_lines.result.now false c.loop-watch.watch c.loop-watch.walk w c.silent_lines.ensures none
-    c.loop-watch.invariant.watches in
-    let Says : Vec Verdict Global → Type 0 =
-    λ v. (u : Way) → Watches u c.loop-watch.watch → v.items ≡ audit (so_far u) in
+    let watches = watched_all _ _ _ _ _ c.silent_lines.ensures none c.loop-watch.invariant.watches in
     subst (λ (r : Run). IfOk c.verdicts.result (λ v. v.items ≡ audit r))
     (whole_way w none.end ∙ none.over.run ∙ c.loop-watch.invariant.run)
-    (IfOk-weaker c.verdicts.result Says (λ v. v.items ≡ audit (so_far w)) (λ v is. is w watches) c.verdicts.ensures)
+    (IfOk-weaker c.verdicts.result (λ v. (u : Way) → Watches u c.loop-watch.watch → v.items ≡ audit (so_far u))
+    (λ v. v.items ≡ audit (so_far w)) (λ v is. is w watches) c.verdicts.ensures)

@@ -1,33 +1,26 @@
 -- `sweep` of snap_audit (src/sweep.rt): the proof of what its contract says.
-use Rattle.std.proofs.Common.{◌+◌, List, drop, replicate, get_or, sym, ap, subst, ◌∙◌, arith}
+use Rattle.std.proofs.Common.{◌+◌, drop, replicate, get_or, ap, ◌∙◌, arith}
 use Rattle.snap_words.specs.Shape.{Counts}
-use Rattle.snap_semantics.specs.declared.event.Event.{Event}
 use Rattle.snap_record.proofs.Events.{next_left}
-use Rattle.snap_audit.specs.Sweep.{fresh, Sweeps}
+use Rattle.snap_audit.specs.Sweep.{fresh}
 use Rattle.snap_audit.proofs.Sweeping.{collects_left, its_collects, its_item, started}
 use Rattle.snap_audit.proofs.sweep.sweep.Goals as goal
 
 pub loop-k-init : goal.loop-k-init
 loop-k-init c = λ r told.
-    let xs = c.args.changes.now in
-    let es = c.args.events.now in
-    let cs = c.in_ok-callers.callers.items in
-    let new = c.in_ok-callers.ensures ∙ ap (λ (s : Counts). replicate s.n (fresh s.w)) told.shape in
-    subst (λ found. Sweeps r xs cs found es) (sym c.new-verdicts.ensures.items)
-    (started r xs cs es told.fits told.leads new told.events)
+    rw c.new-verdicts.ensures.items (started r c.args.changes.now c.in_ok-callers.callers.items c.args.events.now
+    told.fits told.leads (c.in_ok-callers.ensures ∙ ap (λ (s : Counts). replicate s.n (fresh s.w)) told.shape)
+    told.events)
 
 pub note_event-requires-clause-few : goal.note_event-requires-clause-few
 note_event-requires-clause-few c =
     let r = c.requires.0 in
     let told = c.requires.1 in
-    let xs = c.args.changes.now in
-    let es = c.args.events.now in
     let e = c.index-events-k.result in
-    let k = c.loop-k.k in
+    let next = next_left c.args.events.now c.loop-k.k e c.loop-k-test.true c.index-events-k.is in
     let last =
-    its_item r xs c.loop-k.callers.items c.loop-k.verdicts.items e (drop (k + 1) es)
-    (subst (λ (l : List Event). Sweeps r xs c.loop-k.callers.items c.loop-k.verdicts.items l)
-    (next_left es k e c.loop-k-test.true c.index-events-k.is) (c.loop-k.invariant r told)) in
+    its_item r c.args.changes.now c.loop-k.callers.items c.loop-k.verdicts.items e
+    (drop (c.loop-k.k + 1) c.args.events.now) (rw next at (c.loop-k.invariant r told)) in
     let few = told.few in
     omega (arith, last, few)
 
@@ -35,14 +28,10 @@ pub note_event-requires-clause-collects : goal.note_event-requires-clause-collec
 note_event-requires-clause-collects c = λ d.
     let r = c.requires.0 in
     let told = c.requires.1 in
-    let xs = c.args.changes.now in
     let es = c.args.events.now in
     let e = c.index-events-k.result in
     let k = c.loop-k.k in
-    let cs = c.loop-k.callers.items in
-    let found = c.loop-k.verdicts.items in
-    its_collects r xs cs found e (drop (k + 1) es)
-    (subst (λ (l : List Event). Sweeps r xs cs found l)
-    (next_left es k e c.loop-k-test.true c.index-events-k.is) (c.loop-k.invariant r told))
-    (get_or c.args.collects.now k 0)
+    let next = next_left es k e c.loop-k-test.true c.index-events-k.is in
+    its_collects r c.args.changes.now c.loop-k.callers.items c.loop-k.verdicts.items e (drop (k + 1) es)
+    (rw next at (c.loop-k.invariant r told)) (get_or c.args.collects.now k 0)
     (collects_left r es c.args.collects.now k 0 e told.collects c.loop-k-test.true c.index-events-k.is) d

@@ -1,82 +1,53 @@
 -- `Watch::note` of snap_audit (src/watch.rt): the proof of what its contract says.
-use Rattle.std.proofs.Common.{◌++◌, ◌-◌, length, map, refl, sym, ap, subst, ◌∙◌, slice_index}
-use Rattle.snap_words.specs.Shape.{Counts, IsOneOf}
-use Rattle.snap_semantics.specs.Run.{event_of}
-use Rattle.snap_semantics.specs.State.{State, values}
-use Rattle.snap_semantics.specs.declared.event.Event.{Event}
+use Rattle.std.proofs.Common.{refl, ap, ◌∙◌}
 use Rattle.snap_runs.specs.Run.{state}
-use Rattle.snap_runs.specs.StepRoles.{step_role_of}
-use Rattle.snap_record.specs.History.{changes_to, counted}
+use Rattle.snap_semantics.specs.State.{values}
 use Rattle.snap_record.proofs.Recording.{few_collects}
-use Rattle.snap_walk.specs.Walk.{Way}
-use Rattle.snap_audit.specs.Watch.{is_test_line, is_write_line, so_far, told_role}
-use Rattle.snap_audit.proofs.Watches.{counted_length, noted, told_line, values_stay, watched_before}
+use Rattle.snap_audit.specs.Watch.{so_far}
+use Rattle.snap_audit.proofs.Watches.{noted, told_process, told_stay, told_step, told_test, watched_before}
 use Rattle.snap_audit.proofs.watch.Watch.note.Goals as goal
 
 pub note_changes-requires-clause-stay : goal.note_changes-requires-clause-stay
 note_changes-requires-clause-stay g c κs within = λ dry.
-    let w = c.requires.passed.0 in
-    let on = c.requires.passed.1 in
-    let x = c.args.self.now in
-    let p = c.args.passed in
-    let v = on.tells.between in
-    let told = told_line w c.args.walk.now x p on in
-    let role =
-    c.told_role-role.ensures ∙ ap (λ ms. told_role ms p.activity) c.as_slice.ensures.value in
     ap values c.machine.ensures.state
-    ∙ values_stay v c.args.walk.now p x (watched_before w c.args.walk.now x p on) on.tells.passes
-    (told.0 ∙ ap is_write_line (sym role) ∙ dry)
+    ∙ told_stay c.requires.passed.0 c.args.walk.now c.args.self.now c.args.passed c.requires.passed.1
+    c.told_role-role.result (rw c.as_slice.ensures.value at c.told_role-role.ensures) dry
 
 pub note_test-requires-clause-few : goal.note_test-requires-clause-few
 note_test-requires-clause-few g c =
     let x = c.args.self.now in
-    let w = c.requires.passed.0 in
     let on = c.requires.passed.1 in
     let v = on.tells.between in
-    let h = watched_before w c.args.walk.now x c.args.passed on in
-    let few =
-    few_collects (so_far v) v.run.source.kind (state v.run v.at) x.values x.changes.items x.events.items
-    x.collects.items x.at_events.items _ h.notes on.tells.passes.process in
-    rw c.who-i.ensures few
+    let h = watched_before c.requires.passed.0 c.args.walk.now x c.args.passed on in
+    rw c.who-i.ensures (few_collects (so_far v) v.run.source.kind (state v.run v.at) x.values x.changes.items
+    x.events.items x.collects.items x.at_events.items _ h.notes on.tells.passes.process)
 
 pub note_event-requires : goal.note_event-requires
 note_event-requires g c =
-    let x = c.args.self.now in
     let w = c.requires.passed.0 in
     let on = c.requires.passed.1 in
+    let x = c.args.self.now in
     let p = c.args.passed in
-    let v = on.tells.between in
-    let h = watched_before w c.args.walk.now x p on in
-    let d = on.tells.passes in
-    let told = told_line w c.args.walk.now x p on in
-    let role =
-    c.told_role-role.ensures ∙ ap (λ ms. told_role ms p.activity) c.as_slice.ensures.value in
-    let step = step_role_of v.run.source (state v.run v.at) p.item in
-    let test = told.1 ∙ ap is_test_line (sym role) in
-    let many =
-    ap length (c.as_slice-2.ensures.value ∙ c.note_test.ensures step test)
-    ∙ counted_length step p.outcome c.who-i.result x.collects.items ∙ h.notes.tells.process_count in
-    subst (λ n. IsOneOf n c.who-i.result) (sym many)
-    (subst (λ k. IsOneOf v.run.shape.n k) (sym c.who-i.ensures) d.process)
+    let step = told_step w c.args.walk.now x p on in
+    let test =
+    told_test w c.args.walk.now x p on c.told_role-role.result
+    (rw c.as_slice.ensures.value at c.told_role-role.ensures) in
+    rw (c.as_slice-2.ensures.value, c.note_test.ensures step test, c.who-i.ensures)
+    (told_process w c.args.walk.now x p on)
 
 pub returns-clause-watches : goal.returns-clause-watches
 returns-clause-watches g c =
-    let x = c.args.self.now in
     let w = c.requires.passed.0 in
     let on = c.requires.passed.1 in
+    let x = c.args.self.now in
     let p = c.args.passed in
-    let v = on.tells.between in
-    let h = watched_before w c.args.walk.now x p on in
-    let d = on.tells.passes in
-    let told = told_line w c.args.walk.now x p on in
-    let role =
-    c.told_role-role.ensures ∙ ap (λ ms. told_role ms p.activity) c.as_slice.ensures.value in
+    let step = told_step w c.args.walk.now x p on in
+    let test =
+    told_test w c.args.walk.now x p on c.told_role-role.result
+    (rw c.as_slice.ensures.value at c.told_role-role.ensures) in
     let changed = c.in_ok-note_changes.ensures in
     let seen = c.in_ok-note_event.ensures in
-    let step = step_role_of v.run.source (state v.run v.at) p.item in
-    let collects = c.note_test.new.collects.items in
-    let test = told.1 ∙ ap is_test_line (sym role) in
-    noted v c.args.walk.now p x (record {
+    noted on.tells.between c.args.walk.now p x (watched_before w c.args.walk.now x p on) on.tells.passes (record {
       shape = x.shape;
       roles = x.roles;
       silent = x.silent;
@@ -85,15 +56,8 @@ returns-clause-watches g c =
       events = c.note_event.new.events;
       collects = c.note_test.new.collects;
       at_events = c.note_event.new.at_events;
-    }) h d refl refl refl (changed.now ∙ ap values c.machine.ensures.state)
-    (changed.count ∙ ap (λ (n : Counts). n.w) (c.machine.ensures.shape ∙ ap (λ (u : Way). u.run.shape) d.way))
-    (changed.changes
-    ∙ ap (λ (S : State). x.changes.items ++ changes_to p.number 0 x.values (values S)) c.machine.ensures.state)
-    (seen.events ∙ ap (λ es. x.events.items ++ es) c.event_of-event.ensures)
-    (c.note_test.ensures step test ∙ ap (λ k. counted step p.outcome k x.collects.items) c.who-i.ensures)
-    (seen.at_events
-    ∙ ap (λ es. x.at_events.items ++ map (λ (e : Event). slice_index c.as_slice-2.result.now (c.who-i.result - 1)) es)
-    c.event_of-event.ensures
-    ∙ ap (λ k. x.at_events.items ++ map (λ (e : Event). k) (event_of p.number p.item p.outcome))
-    (ap (λ ks. slice_index ks (c.who-i.result - 1)) c.as_slice-2.ensures.value
-    ∙ ap (λ i. slice_index collects (i - 1)) c.who-i.ensures))
+    }) refl refl refl (rw c.machine.ensures.state at changed.now)
+    (rw (c.machine.ensures.shape, on.tells.passes.way) at changed.count)
+    (rw c.machine.ensures.state at changed.changes) (rw c.event_of-event.ensures at seen.events)
+    (rw c.who-i.ensures at (c.note_test.ensures step test))
+    (rw (c.event_of-event.ensures, c.as_slice-2.ensures.value, c.who-i.ensures) at seen.at_events)

@@ -1,6 +1,7 @@
 -- The proofs of snap_certify, by their modules.
 pub mod Progressing
 pub mod Findings
+pub mod Writes
 pub mod Sound
 pub mod Complete
 pub mod Chosen

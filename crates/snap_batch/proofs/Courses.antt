@@ -1,23 +1,18 @@
 -- Laws of a `Course`, a machine that goes through a schedule with the events that callers saw: its items add up, and
 -- a step of a process that is not busy does nothing, however often it comes.
 use Rattle.std.proofs.Common.{◌≡◌, ℕ, zero, suc, ◌+◌, ◌<◌, ◌≤◌, List, [], ◌∷◌, ◌++◌, length, replicate, refl, sym, ap}
-use Rattle.std.proofs.Common.{subst, ◌∙◌, append_assoc, append-nil, length-append, Option, arith}
+use Rattle.std.proofs.Common.{◌∙◌, append_assoc, append-nil, length-append, arith}
 use Rattle.std.specs.List.{AllByRecursion, flat_map}
 use Rattle.std.proofs.lemmas.List.{length-replicate, replicate_more, replicate-append-replicate}
 use Rattle.snap_words.specs.Shape.{Counts, IsOneOf}
 use Rattle.snap_semantics.specs.declared.process.Item.{Item}
-use Rattle.snap_semantics.specs.declared.process.Item.TheVariants.{Step}
 use Rattle.snap_semantics.specs.declared.process.Outcome.{Outcome}
 use Rattle.snap_semantics.specs.declared.process.Outcome.TheVariants.{Skipped}
 use Rattle.snap_semantics.specs.declared.process.Reason.{Reason}
-use Rattle.snap_semantics.specs.declared.process.Reason.TheVariants as reason
-use Rattle.snap_semantics.specs.declared.process.Status.TheVariants.{Idle, Trapped, Crashed}
-use Rattle.snap_semantics.specs.declared.process.Activity.{Activity}
-use Rattle.snap_semantics.specs.declared.process.Cause.{Cause}
 use Rattle.snap_semantics.specs.Run.{after, event_of, events}
 use Rattle.snap_semantics.specs.Source.{Source}
-use Rattle.snap_semantics.specs.State.{State, initial, process_at}
-use Rattle.snap_semantics.specs.Table.{done, step, who}
+use Rattle.snap_semantics.specs.State.{State, initial}
+use Rattle.snap_semantics.specs.Table.{done, who}
 use Rattle.snap_sched.specs.Segments.{segment_items}
 use Rattle.snap_sched.specs.declared.segments.Segment.{Segment}
 use Rattle.snap_record.proofs.Longer.{after_append, events_append}
@@ -31,7 +26,10 @@ takes_more c d e xs ys h more =
     let s = c.machine.source in
     let n = c.machine.shape in
     let S = c.machine.state in
-    let number : d.done + 1 ≡ c.done + 1 + length xs = (let a = h.number in omega (arith, a)) in
+    let a = h.number in
+    let b = more.number in
+    let l = length-append xs ys in
+    let number : d.done + 1 ≡ c.done + 1 + length xs = omega arith in
     record {
       source = more.source ∙ h.source;
       shape = more.shape ∙ h.shape;
@@ -40,15 +38,14 @@ takes_more c d e xs ys h more =
           (append_assoc c.events.items (events s n S (c.done + 1) xs)
           (events s n (after s n S xs) (c.done + 1 + length xs) ys)
           ∙ ap (λ es. c.events.items ++ es) (sym (events_append s n S (c.done + 1) xs ys)));
-      number = (let a = h.number in let b = more.number in let l = length-append xs ys in omega (arith, a, b, l));
+      number = omega arith;
     }
 
 -- an item once more
 pub takes_once_more : {K W : Type 0} (c d e : Course K W) (k m : ℕ) (x : Item) → m ≡ k + 1 →
     Takes c (replicate k x) d → Takes d (x ∷ []) e → Takes c (replicate m x) e
 takes_once_more c d e k m x is h more =
-    subst (λ xs. Takes c xs e) (replicate_more k x ∙ ap (λ j. replicate j x) (sym is))
-    (takes_more c d e (replicate k x) (x ∷ []) h more)
+    rw (is, ← replicate_more k x) (takes_more c d e (replicate k x) (x ∷ []) h more)
 
 -- an item that does nothing, however often
 pub takes_idle : {K W : Type 0} (c d e : Course K W) (k j m : ℕ) (x : Item) → m ≡ k + j →
@@ -56,45 +53,25 @@ pub takes_idle : {K W : Type 0} (c d e : Course K W) (k j m : ℕ) (x : Item) �
     e.machine ≡ d.machine → e.events ≡ d.events → e.done ≡ d.done + j → Takes c (replicate m x) e
 takes_idle c d e k j m x is h nothing machine same number =
     let idle = nothing (d.done + 1) j in
+    let l = length-replicate j x in
     let more : Takes d (replicate j x) e = record {
       source = ap (λ y. y.source) machine;
       shape = ap (λ y. y.shape) machine;
       state = ap (λ y. y.state) machine ∙ sym idle.0;
       events = ap (λ v. v.items) same ∙ sym (append-nil d.events.items) ∙ ap (λ es. d.events.items ++ es) (sym idle.1);
-      number = (let l = length-replicate j x in omega (arith, number, l));
+      number = omega arith;
     } in
-    subst (λ xs. Takes c xs e) (replicate-append-replicate k j x ∙ ap (λ i. replicate i x) (sym is))
-    (takes_more c d e (replicate k x) (replicate j x) h more)
+    rw (is, ← replicate-append-replicate k j x) (takes_more c d e (replicate k x) (replicate j x) h more)
 
 -- an item that is skipped does nothing
-skipped : (s : Source) (n : Counts) (S : State) (x : Item) (r : Reason) →
+pub skipped_does_nothing : (s : Source) (n : Counts) (S : State) (x : Item) (r : Reason) →
     done s n S x ≡ (S, Skipped r) → DoesNothing s n S x
-skipped s n S x r is t zero = (refl, refl)
-skipped s n S x r is t (suc k) =
-    let rest = skipped s n S x r is (t + 1) k in (
+skipped_does_nothing s n S x r is t zero = (refl, refl)
+skipped_does_nothing s n S x r is t (suc k) =
+    let rest = skipped_does_nothing s n S x r is (t + 1) k in (
       ap (λ (o : State × Outcome). after s n o.0 (replicate k x)) is ∙ rest.0,
       ap (λ (o : State × Outcome). event_of t x o.1 ++ events s n o.0 (t + 1) (replicate k x)) is ∙ rest.1,
     )
-
--- nor does a step of a process that is idle
-pub idle_does_nothing : (s : Source) (n : Counts) (S : State) (x : Item) (i : ℕ) → x ≡ Step i →
-    (process_at S i).status ≡ Idle → DoesNothing s n S x
-idle_does_nothing s n S x i is stands =
-    subst (DoesNothing s n S) (sym is) (skipped s n S (Step i) reason.Idle (ap (step s n S i (process_at S i)) stands))
-
--- of one that has trapped
-pub trapped_does_nothing : (s : Source) (n : Counts) (S : State) (x : Item) (i : ℕ) (e : Cause) (a : Activity) →
-    x ≡ Step i → (process_at S i).status ≡ Trapped e a → DoesNothing s n S x
-trapped_does_nothing s n S x i e a is stands =
-    subst (DoesNothing s n S) (sym is)
-    (skipped s n S (Step i) reason.Trapped (ap (step s n S i (process_at S i)) stands))
-
--- a step of a process that has crashed does nothing
-pub crashed_does_nothing : (s : Source) (n : Counts) (S : State) (x : Item) (i : ℕ) (was : Option Activity) →
-    x ≡ Step i → (process_at S i).status ≡ Crashed was → DoesNothing s n S x
-crashed_does_nothing s n S x i was is stands =
-    subst (DoesNothing s n S) (sym is)
-    (skipped s n S (Step i) reason.Crashed (ap (step s n S i (process_at S i)) stands))
 
 -- of these items some are done, and the others are left
 pub record Going {K W : Type 0} (s : Source) (n : Counts) (all : List Item) (c : Course K W)
@@ -115,23 +92,21 @@ all_right P (x ∷ xs) ys h = all_right P xs ys h.1
 -- an item that stands at the front may be done
 first_fits : (P : Item → Type 0) (k : ℕ) (x : Item) (ys : List Item) → 0 < k →
     AllByRecursion P (replicate k x ++ ys) → P x
-first_fits P zero x ys some h = absurd (omega (arith, some))
+first_fits P zero x ys some h = absurd (omega arith)
 first_fits P (suc k) x ys some h = h.0
 
 -- the items of a segment stand before those of the segments behind it
 in_front : (left left' : List Segment) (r : Segment) (x : Item) (k : ℕ) → left ≡ r ∷ left' →
     replicate k x ≡ segment_items r → flat_map segment_items left ≡ replicate k x ++ flat_map segment_items left'
-in_front left left' r x k next is =
-    ap (flat_map segment_items) next ∙ ap (λ xs. xs ++ flat_map segment_items left') (sym is)
+in_front left left' r x k next is = rw (next, is)
 
 -- the item that comes next may be done
 pub next_fits : {K W : Type 0} (s : Source) (n : Counts) (all : List Item) (left left' : List Segment) (r : Segment)
     (c : Course K W) (x : Item) (k : ℕ) → Going s n all c (flat_map segment_items left) → left ≡ r ∷ left' →
     replicate k x ≡ segment_items r → 0 < k → IsOneOf c.machine.shape.n (who x)
 next_fits s n all left left' r c x k h next is some =
-    subst (λ (m : Counts). IsOneOf m.n (who x)) (sym h.shape)
-    (first_fits (λ x. IsOneOf n.n (who x)) k x (flat_map segment_items left') some
-    (subst (λ xs. AllByRecursion (λ x. IsOneOf n.n (who x)) xs) (in_front left left' r x k next is) h.fits))
+    rw h.shape (first_fits (λ x. IsOneOf n.n (who x)) k x (flat_map segment_items left') some
+    (rw (in_front left left' r x k next is) at h.fits))
 
 -- there is a number for the next item, as often as it comes
 pub next_few : {K W : Type 0} (s : Source) (n : Counts) (all : List Item) (left left' : List Segment) (r : Segment)
@@ -143,7 +118,7 @@ next_few s n all left left' r c x k h next is =
     let m =
     ap length (in_front left left' r x k next is) ∙ length-append (replicate k x) (flat_map segment_items left') in
     let l = length-replicate k x in
-    omega (arith, e, f, m, l)
+    omega arith
 
 -- when they are done, the others are left
 pub some_more : {K W : Type 0} (s : Source) (n : Counts) (all : List Item) (left left' : List Segment) (r : Segment)
@@ -152,11 +127,11 @@ pub some_more : {K W : Type 0} (s : Source) (n : Counts) (all : List Item) (left
 some_more s n all left left' r c c' x k h next is took =
     let xs = replicate k x in
     let ys = flat_map segment_items left' in
-    let g : Going s n all c (xs ++ ys) = subst (Going s n all c) (in_front left left' r x k next is) h in
-    let number : c'.done + 1 ≡ c.done + 1 + length xs = (let a = took.number in omega (arith, a)) in
+    let g = rw (in_front left left' r x k next is) at h in
     let a = g.number in
     let b = took.number in
     let l = length-append xs ys in
+    let number : c'.done + 1 ≡ c.done + 1 + length xs = omega arith in
     record {
       fits = all_right (λ x. IsOneOf n.n (who x)) xs ys g.fits;
       source = took.source ∙ g.source;
@@ -166,6 +141,6 @@ some_more s n all left left' r c c' x k h next is took =
           ∙ sym (append_assoc c.events.items (events s n c.machine.state (c.done + 1) xs)
           (events s n (after s n c.machine.state xs) (c.done + 1 + length xs) ys))
           ∙ rw (took.events, took.state, number, g.source, g.shape) refl;
-      number = omega (arith, a, b, l);
+      number = omega arith;
       few = g.few;
     }

@@ -1,5 +1,5 @@
 -- The reports of a batch come in the order of its schedules: each is that of the schedule at its place.
-use Rattle.std.proofs.Common.{◌≡◌, List, [], ◌∷◌, map, Vec, Result, Ok, Err, Bor, refl, ◌∙◌, ap, subst}
+use Rattle.std.proofs.Common.{◌≡◌, List, [], ◌∷◌, map, Vec, Result, Ok, Err, Bor, refl, ◌∙◌}
 use Rattle.std.specs.Prelude.{IfOk, MatchResult}
 use Rattle.std.specs.List.{AllZip, Contains}
 use Rattle.std.specs.Global.{Global}
@@ -10,10 +10,8 @@ in_order : {S R : Type 0} (E : Type 0) (f : S → R) (schedules : List S) (repor
     → AllZip {A = S} {B = Result R E} (λ s r. IfOk r (λ report. report ≡ f s)) schedules (map (λ v. Ok v) reports) →
     reports ≡ map f schedules
 in_order E f [] [] h = refl
-in_order E f [] (r ∷ reports) h = absurd h
-in_order E f (s ∷ schedules) [] h = absurd h
-in_order E f (s ∷ schedules) (r ∷ reports) h =
-    ap (λ x. x ∷ reports) h.0 ∙ ap (λ xs. f s ∷ xs) (in_order E f schedules reports h.1)
+in_order E f (s ∷ schedules) (r ∷ reports) h = rw (h.0, in_order E f schedules reports h.1)
+in_order E f _ _ h = absurd h
 
 -- what is collected from answers that are each as it should be
 pub gathered : {S R E : Type 0} (f : S → R) (schedules : List S) (answers : List (Result R E))
@@ -22,9 +20,8 @@ pub gathered : {S R E : Type 0} (f : S → R) (schedules : List S) (answers : Li
     → MatchResult result (λ v. (reports : List R) × (answers ≡ map (λ v. Ok v) reports) × (v.items ≡ reports))
     (λ e. Contains answers (Err e))
     → IfOk result (λ v. v.items ≡ map f schedules)
-gathered {S = S} {R = R} {E = E} f schedules answers (Ok v) each all =
-    let P : List (Result R E) → Type 0 = λ l. AllZip (λ s r. IfOk r (λ report. report ≡ f s)) schedules l in
-    all.2 ∙ in_order E f schedules all.0 (subst P all.1 each)
+gathered {E = E} f schedules answers (Ok v) each all =
+    all.2 ∙ in_order E f schedules all.0 (rw all.1 at each)
 gathered f schedules answers (Err e) each all = tt
 
 -- a chain side by side over references that show the schedules, whose closure has its program by another way
@@ -36,6 +33,5 @@ pub side_by_side : {P S R E : Type 0} (f : P → S → R) (held program : P) →
     (λ e. Contains answers (Err e))
     → IfOk result (λ v. v.items ≡ map (f program) schedules)
 side_by_side {S = S} {R = R} f held program same seen schedules shown answers result each all =
-    let zipped = slice-AllZip seen schedules shown (λ s r. IfOk r (λ report. report ≡ f held s)) answers each in
-    subst (λ p. IfOk result (λ v. v.items ≡ map (f p) schedules)) same
-    (gathered (f held) schedules answers result zipped all)
+    rw (← same) (gathered (f held) schedules answers result
+    (slice-AllZip seen schedules shown (λ s r. IfOk r (λ report. report ≡ f held s)) answers each) all)

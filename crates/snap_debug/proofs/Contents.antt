@@ -1,6 +1,6 @@
 -- The debugger's test whether two contents of a register are the same, `same_contents`, holds if and only if they are
 -- equal.
-use Rattle.std.proofs.Common.{◌≡◌, ℕ, ◌-◌, Bool, true, false, ◌&&◌, List, Option, Some, None, nat_eq, refl, ap, ◌∙◌}
+use Rattle.std.proofs.Common.{◌≡◌, ℕ, Bool, true, false, ◌&&◌, List, Option, Some, None, nat_eq, refl, ap}
 use Rattle.std.specs.Prelude.{bytes_eq}
 use Rattle.std.proofs.lemmas.Bool.{eq-eqb, eqb-true}
 use Rattle.std.proofs.lemmas.Slice.Eq.{bytes_eq-Decides}
@@ -21,45 +21,18 @@ word_is x y h =
     let c = both (nat_eq x.id y.id) _ b.1 in
     let d = both (nat_eq x.toggle y.toggle) _ c.1 in
     let e = both (bytes_eq x.handshakes y.handshakes) _ d.1 in
-    let datum = eqb-true x.datum y.datum a.0 in
-    let seq = eqb-true x.seq y.seq b.0 in
-    let id = eqb-true x.id y.id c.0 in
-    let toggle = eqb-true x.toggle y.toggle d.0 in
-    let handshakes = (bytes_eq-Decides x.handshakes y.handshakes).0 e.0 in
-    let view = (bytes_eq-Decides x.view y.view).0 e.1 in
-    ap (λ k. let w : Word =
-    record { datum = k; seq = x.seq; id = x.id; toggle = x.toggle; handshakes = x.handshakes; view = x.view } in w)
-    datum
-    ∙ ap (λ k. let w : Word = record {
-      datum = y.datum;
-      seq = k;
-      id = x.id;
-      toggle = x.toggle;
-      handshakes = x.handshakes;
-      view = x.view;
-    } in w) seq
-    ∙ ap (λ k. let w : Word = record {
-      datum = y.datum;
-      seq = y.seq;
-      id = k;
-      toggle = x.toggle;
-      handshakes = x.handshakes;
-      view = x.view;
-    } in w) id
-    ∙ ap (λ k. let w : Word =
-    record { datum = y.datum; seq = y.seq; id = y.id; toggle = k; handshakes = x.handshakes; view = x.view } in w)
-    toggle
-    ∙ ap (λ k. let w : Word = record {
-      datum = y.datum;
-      seq = y.seq;
-      id = y.id;
-      toggle = y.toggle;
-      handshakes = k;
-      view = x.view;
-    } in w) handshakes
-    ∙ ap (λ k. let w : Word =
-    record { datum = y.datum; seq = y.seq; id = y.id; toggle = y.toggle; handshakes = y.handshakes; view = k } in w)
-    view
+    λ i. record {
+      datum = eqb-true x.datum y.datum a.0 i;
+      seq = eqb-true x.seq y.seq b.0 i;
+      id = eqb-true x.id y.id c.0 i;
+      toggle = eqb-true x.toggle y.toggle d.0 i;
+      handshakes = (bytes_eq-Decides x.handshakes y.handshakes).0 e.0 i;
+      view = (bytes_eq-Decides x.view y.view).0 e.1 i;
+    }
+
+-- a list compares equal to itself
+bytes_same : (xs : List ℕ) → bytes_eq xs xs ≡ true
+bytes_same xs = (bytes_eq-Decides xs xs).1 refl
 
 -- contents that compare equal are equal
 pub contents_are : (x y : Option Contents) → same_contents x y ≡ true → x ≡ y
@@ -68,32 +41,11 @@ contents_are (Some (WordContents x)) (Some (WordContents y)) h =
 contents_are (Some (BitContents x)) (Some (BitContents y)) h = ap (λ k. Some (BitContents k)) (eqb-true x y h)
 contents_are (Some (ViewContents x)) (Some (ViewContents y)) h =
     ap (λ v. Some (ViewContents v)) ((bytes_eq-Decides x y).0 h)
-contents_are (Some (WordContents x)) (Some (BitContents y)) h = absurd cc
-contents_are (Some (WordContents x)) (Some (ViewContents y)) h = absurd cc
-contents_are (Some (BitContents x)) (Some (WordContents y)) h = absurd cc
-contents_are (Some (BitContents x)) (Some (ViewContents y)) h = absurd cc
-contents_are (Some (ViewContents x)) (Some (WordContents y)) h = absurd cc
-contents_are (Some (ViewContents x)) (Some (BitContents y)) h = absurd cc
-contents_are (Some (WordContents x)) None h = absurd cc
-contents_are (Some (BitContents x)) None h = absurd cc
-contents_are (Some (ViewContents x)) None h = absurd cc
-contents_are None (Some (WordContents y)) h = absurd cc
-contents_are None (Some (BitContents y)) h = absurd cc
-contents_are None (Some (ViewContents y)) h = absurd cc
 contents_are None None h = refl
-
--- a list compares equal to itself
-bytes_same : (xs : List ℕ) → bytes_eq xs xs ≡ true
-bytes_same xs = (bytes_eq-Decides xs xs).1 refl
-
-all_six : (a b c d e f : Bool) → a ≡ true → b ≡ true → c ≡ true → d ≡ true → e ≡ true → f ≡ true →
-    (a && (b && (c && (d && (e && f))))) ≡ true
-all_six a b c d e f g h i j k l = cc
+contents_are _ _ h = absurd cc
 
 pub contents_same : (x : Option Contents) → same_contents x x ≡ true
-contents_same (Some (WordContents x)) =
-    all_six _ _ _ _ _ _ (eq-eqb x.datum x.datum refl) (eq-eqb x.seq x.seq refl) (eq-eqb x.id x.id refl)
-    (eq-eqb x.toggle x.toggle refl) (bytes_same x.handshakes) (bytes_same x.view)
+contents_same (Some (WordContents x)) = simp (eq-eqb, bytes_same)
 contents_same (Some (BitContents x)) = eq-eqb x x refl
 contents_same (Some (ViewContents x)) = bytes_same x
 contents_same None = refl

@@ -1,5 +1,5 @@
 -- A `Followed` does one more item: the state and the events that it keeps are those of the longer run.
-use Rattle.std.proofs.Common.{◌≡◌, ℕ, suc, ◌<◌, List, [], ◌∷◌, ◌++◌, refl, sym, ap, subst, ◌∙◌, arith}
+use Rattle.std.proofs.Common.{◌≡◌, ℕ, suc, ◌<◌, List, [], ◌∷◌, ◌++◌, refl, arith}
 use Rattle.snap_words.specs.Shape.{Counts, IsOneOf, max_items}
 use Rattle.snap_words.specs.declared.kind.KindTag.{KindTag}
 use Rattle.snap_semantics.specs.Run.{event_of}
@@ -10,7 +10,7 @@ use Rattle.snap_semantics.specs.declared.event.Event.{Event}
 use Rattle.snap_semantics.specs.declared.process.Item.{Item}
 use Rattle.snap_semantics.specs.declared.process.Outcome.{Outcome}
 use Rattle.snap_machine.specs.Configuration.{Configuration}
-use Rattle.snap_runs.specs.Run.{Run, state, events_of}
+use Rattle.snap_runs.specs.Run.{Run, state}
 use Rattle.snap_record.specs.Longer.{with_item}
 use Rattle.snap_record.proofs.Longer.{size, longer, state_last, events_last, join_all}
 use Rattle.snap_debug.specs.Followed.{IsFollowed}
@@ -20,37 +20,24 @@ pub started : (s : Source) (n : Counts) (k : KindTag) (m : Configuration) (items
     s.kind ≡ k → m ≡ record { source = s; shape = n; state = initial s n } → items ≡ [] → es ≡ [] →
     IsFollowed (record { source = m.source; shape = m.shape; items = items }) k m.state es
 started s n k m items es kind is none e =
-    subst (λ (y : Configuration).
-    IsFollowed (record { source = y.source; shape = y.shape; items = items }) k y.state es) (sym is)
-    (subst (λ (l : List Item). IsFollowed (record { source = s; shape = n; items = l }) k (initial s n) es) (sym none)
-    (subst (λ (l : List Event). IsFollowed (record { source = s; shape = n; items = [] }) k (initial s n) l) (sym e)
-    (let whole : IsFollowed (record { source = s; shape = n; items = [] }) k (initial s n) [] = record {
+    rw (is, none, e) (record {
       kind = kind;
       state_is = refl;
       fits = record { all = tt };
       few = omega arith;
       events_are = refl;
-    } in whole)))
+    })
 
 -- one item more
 pub followed_on : (r : Run) (k : KindTag) (S S' : State) (x : Item) (o : Outcome) (es es0 es' : List Event) (t : ℕ) →
     IsFollowed r k S es → IsOneOf r.shape.n (who x) → size r < max_items → t ≡ suc (size r) →
     done r.source r.shape S x ≡ (S', o) → es0 ≡ es → es' ≡ es0 ++ event_of t x o → IsFollowed (with_item r x) k S' es'
 followed_on r k S S' x o es es0 es' t h one few number is_done same more =
-    let S0 = state r (size r) in
-    let done0 : done r.source r.shape S0 x ≡ (S', o) =
-    ap (λ (T : State). done r.source r.shape T x) (sym h.state_is) ∙ is_done in
     let items = longer r x in
     record {
       kind = h.kind;
-      state_is =
-          sym (ap (λ (p : State × Outcome). p.0) done0) ∙ sym (state_last r x)
-          ∙ ap (state (with_item r x)) (sym items);
+      state_is = rw (items, state_last r x, ← h.state_is, is_done) refl;
       fits = record { all = join_all (λ (y : Item). IsOneOf r.shape.n (who y)) r.items (x ∷ []) h.fits.all (one, tt) };
       few = omega (arith, items, few);
-      events_are =
-          more ∙ ap (λ l. l ++ event_of t x o) same ∙ ap (λ m. es ++ event_of m x o) number
-          ∙ ap (λ (p : Outcome). es ++ event_of (suc (size r)) x p) (sym (ap (λ (p : State × Outcome). p.1) done0))
-          ∙ ap (λ l. l ++ event_of (suc (size r)) x (done r.source r.shape S0 x).1) h.events_are
-          ∙ sym (events_last r x) ∙ ap (events_of (with_item r x)) (sym items);
+      events_are = rw (more, same, number, h.events_are, items, events_last r x, ← h.state_is, is_done) refl;
     }

@@ -16,9 +16,6 @@ use Rattle.snap_output.specs.Output.{output_of, run_text}
 use Rattle.snap_output.specs.Refusals.{AreRefusedAlike, RefusesTracesAsRuns}
 use Rattle.snap_output.proofs.Ended.{of_listing}
 
-neither : (x y : List ℕ) → AreRefusedAlike (Ok x) (Ok y)
-neither x y r = (λ e. absurd cc, λ e. absurd cc)
-
 -- behind what both rest on
 behind : {A : Type 0} (x : Result A Refusal) (f g : A → Result (List ℕ) Refusal) →
     ((a : A) → AreRefusedAlike (f a) (g a)) → AreRefusedAlike (x >>= f) (x >>= g)
@@ -35,7 +32,7 @@ unfolding trace_listing run_listing
 texts_alike l texts =
     subst (AreRefusedAlike (trace_listing l (part 0 texts))) (sym (of_listing l texts))
     (behind (schedule_for l (part 0 texts)) (λ s. Ok (trace_text (run_over l s))) (λ s. Ok (end_text l s))
-    (λ s. neither (trace_text (run_over l s)) (end_text l s)))
+    (λ s r. (λ e. absurd cc, λ e. absurd cc)))
 
 pub traces_as_runs : RefusesTracesAsRuns
 unfolding output_of parted

@@ -16,9 +16,9 @@ use Rattle.snap_semantics.specs.declared.refusal.ListingRefusal.TheVariants.{Too
 use Rattle.snap_semantics.specs.declared.refusal.Refusal.{Refusal}
 use Rattle.snap_semantics.specs.declared.refusal.Refusal.TheVariants as refusal
 use Rattle.snap_tasks.specs.declared.task.Task.{Task}
-use Rattle.snap_tasks.specs.declared.task.Task.TheVariants as task
 use Rattle.snap_input.specs.Parts.{max_input}
-use Rattle.snap_output.specs.AtOnce.{found_at_once, long_text, unknown_version, why, wrong_head, wrong_version}
+use Rattle.snap_output.specs.AtOnce.{found_at_once, long_text, refused_at_once, unknown_version, why, wrong_head}
+use Rattle.snap_output.specs.AtOnce.{wrong_version}
 
 module _ {X : Type 0} (result : Result X (Fault Refusal)) where
   -- a refusal is answered
@@ -29,15 +29,9 @@ module _ {X : Type 0} (result : Result X (Fault Refusal)) where
   abbrev pub Answered : Option Refusal → Type 0
   Answered found = (r : Refusal) → found ≡ Some r → Refuses r
 
-  of_one : (q : Refusal) → Refuses q → Answered (Some q)
-  of_one q h r e = cc
-
-  of_none : Answered None
-  of_none r e = absurd cc
-
   if_long : (long : Bool) (q : Refusal) → (long ≡ true → Refuses q) → Answered (if long then Some q else None)
-  if_long true q h = of_one q (h refl)
-  if_long false q h = of_none
+  if_long true q h r e = let refused = h refl in cc
+  if_long false q h r e = absurd cc
 
   pub of_text : (text : List ℕ) → (65536 < length text → Refuses (refusal.Listing TooLong)) → Answered (long_text text)
   of_text text h =
@@ -49,22 +43,22 @@ module _ {X : Type 0} (result : Result X (Fault Refusal)) where
 
   of_version : (v : Option ImageVersion) → (v ≡ None → Refuses (refusal.Image Version)) →
       Answered (option_map refusal.Image (unknown_version v))
-  of_version None h = of_one (refusal.Image Version) (h refl)
-  of_version (Some v) h = of_none
+  of_version None h r e = let refused = h refl in cc
+  of_version (Some v) h r e = absurd cc
 
   of_rest : (bytes : List ℕ) →
       ((b : ℕ) (rest : List ℕ) → bytes ≡ b ∷ rest → of_code versions b ≡ None → Refuses (refusal.Image Version)) →
       Answered (option_map refusal.Image (wrong_version bytes))
-  of_rest [] h = of_none
-  of_rest (b ∷ rest) h = of_version (of_code versions b) (h b rest refl)
+  of_rest [] h r e = absurd cc
+  of_rest (b ∷ rest) h r e = of_version (of_code versions b) (h b rest refl) r e
 
   of_signed : (signed : Bool) (rest : List ℕ) → (signed ≡ false → Refuses (refusal.Image NotAnImage)) →
       (signed ≡ true → Answered (option_map refusal.Image (wrong_version rest))) →
       Answered (option_map refusal.Image (if signed then wrong_version rest else Some NotAnImage))
-  of_signed true rest h k = k refl
-  of_signed false rest h k = of_one (refusal.Image NotAnImage) (h refl)
+  of_signed true rest h k r e = k refl r e
+  of_signed false rest h k r e = let refused = h refl in cc
 
-  pub of_head : (bytes : List ℕ) → (take 4 bytes ≢ signature → Refuses (refusal.Image NotAnImage)) →
+  of_head : (bytes : List ℕ) → (take 4 bytes ≢ signature → Refuses (refusal.Image NotAnImage)) →
       (HasUnknownVersion bytes → Refuses (refusal.Image Version)) →
       Answered (option_map refusal.Image (wrong_head bytes))
   of_head bytes h k =
@@ -74,11 +68,8 @@ module _ {X : Type 0} (result : Result X (Fault Refusal)) where
       (λ e. of_rest (drop 4 bytes) (λ b rest is unknown.
       k (b, rest, whole ∙ ap (λ x. x ++ drop 4 bytes) (same.0 e) ∙ ap (λ x. signature ++ x) is, unknown)))
 
-  -- of an input that is not too long
-  pub of_list : (t : Task) (input : List ℕ) → t ≡ task.List → length input ≤ max_input →
-      Answered (option_map refusal.Image (wrong_head input)) → Answered (found_at_once t input)
-  of_list t input is short h = rw (is, le-ltb max_input (length input) short) h
-
-  pub of_upgrade : (t : Task) (input : List ℕ) → t ≡ task.Upgrade → length input ≤ max_input →
-      Answered (option_map refusal.Image (wrong_head input)) → Answered (found_at_once t input)
-  of_upgrade t input is short h = rw (is, le-ltb max_input (length input) short) h
+  -- of an image that is not too long
+  pub of_image : (t : Task) (input : List ℕ) → refused_at_once t input ≡ option_map refusal.Image (wrong_head input) →
+      length input ≤ max_input → (take 4 input ≢ signature → Refuses (refusal.Image NotAnImage)) →
+      (HasUnknownVersion input → Refuses (refusal.Image Version)) → Answered (found_at_once t input)
+  of_image t input is short h k = rw (is, le-ltb max_input (length input) short) (of_head input h k)

@@ -1,8 +1,9 @@
 -- Two texts that differ in one part alone (`Differs`): the parts before it and behind it are the same.
-use Rattle.std.proofs.Common.{◌≡◌, ℕ, ◌+◌, Bool, true, false, List, [], ◌++◌, Option, Some, None, if◌then◌else◌}
-use Rattle.std.proofs.Common.{slice_get, slice_set, refl, sym, ap, ◌∙◌, append_assoc, append-nil, subst}
+use Rattle.std.proofs.Common.{◌≡◌, ℕ, zero, suc, ◌+◌, List, [], ◌∷◌, ◌++◌, Option, Some, None, slice_get, slice_set}
+use Rattle.std.proofs.Common.{refl, sym, ap, ◌∙◌, append_assoc, append-nil, subst, arith}
+use Rattle.std.specs.List.{AllByRecursion}
 use Rattle.snap_output.proofs.Wholes.{feeds, feeds_both}
-use Rattle.snap_output.proofs.Splits.{AreJoined, IsSplit}
+use Rattle.snap_output.proofs.Splits.{AreJoined, IsInOrder, all_are}
 
 -- parts with as many lines
 pub record IsLike (P : List ℕ → Type 0) (m m' : List ℕ) : Type 0 where
@@ -94,18 +95,29 @@ module _ {P : List ℕ → Type 0} (joins : AreJoined P) where
       within ((a ++ b) ++ c) [] (joins.join (joins.join ha hb) hc) joins.none h
       (simp append-nil) (simp append-nil)
 
+-- lists whose elements have texts of a sort
+module _ {A : Type 0} {P : List ℕ → Type 0} (joins : AreJoined P) {f : ℕ → A → List ℕ} {F : ℕ → List A → List ℕ}
+    (order : IsInOrder f F) (Good : A → Type 0) (each : (n : ℕ) (x : A) → Good x → P (f n x)) (h : A → List ℕ) where
+  -- elements that differ in a part, the first of which has number n
+  abbrev DiffersAt : ℕ → A → A → Type 0
+  DiffersAt n v w = Differs P (f n v) (f n w) (h v) (h w)
+
+  set_differs : (n j : ℕ) (xs : List A) (v w : A) → AllByRecursion Good xs → DiffersAt (n + j) v w →
+      Differs P (F n (slice_set xs j v)) (F n (slice_set xs j w)) (at h (slice_get (slice_set xs j v) j))
+      (at h (slice_get (slice_set xs j w) j))
+  set_differs n j [] v w good d = stays joins (all_are joins order Good each n [] tt)
+  set_differs n zero (x ∷ xs) v w good d =
+      let e : n + 0 ≡ n = omega arith in
+      within joins [] (F (n + 1) xs) joins.none (all_are joins order Good each (n + 1) xs good.1)
+      (subst (λ k. DiffersAt k v w) e d) (order.more n v xs) (order.more n w xs)
+  set_differs n (suc j) (x ∷ xs) v w good d =
+      let e : n + suc j ≡ n + 1 + j = omega arith in
+      within joins (f n x) [] (each n x good.0) joins.none
+      (set_differs (n + 1) j xs v w good.1 (subst (λ k. DiffersAt k v w) e d))
+      (simp append-nil (order.more n x (slice_set xs j v))) (simp append-nil (order.more n x (slice_set xs j w)))
+
   -- one element of a list differs, in a part of it
-  pub one_differs : {A : Type 0} {f : ℕ → A → List ℕ} {F : ℕ → List A → List ℕ} (h : A → List ℕ) (n j : ℕ)
-      (xs : List A) {old new : List A} (v w : A) → IsSplit P f F n j xs → old ≡ slice_set xs j v →
-      new ≡ slice_set xs j w → Differs P (f (n + j) v) (f (n + j) w) (h v) (h w) →
+  pub one_differs : (n j : ℕ) (xs : List A) {old new : List A} (v w : A) → AllByRecursion Good xs →
+      old ≡ slice_set xs j v → new ≡ slice_set xs j w → DiffersAt (n + j) v w →
       Differs P (F n old) (F n new) (at h (slice_get old j)) (at h (slice_get new j))
-  one_differs {A} {f} {F} h n j xs v w sp e e' d =
-      within sp.front sp.rest sp.front_is sp.rest_is
-      (by_case sp.there _ _ (ap (λ (zs : List A). slice_get zs j) e ∙ sp.got v)
-      (ap (λ (zs : List A). slice_get zs j) e' ∙ sp.got w))
-      (ap (F n) e ∙ sp.text v) (ap (F n) e' ∙ sp.text w)
-    where
-      by_case : (b : Bool) (o o' : Option A) → o ≡ (if b then Some v else None) → o' ≡ (if b then Some w else None) →
-          Differs P (if b then f (n + j) v else []) (if b then f (n + j) w else []) (at h o) (at h o')
-      by_case true o o' is is' = differ_as d (ap (at h) (sym is)) (ap (at h) (sym is'))
-      by_case false o o' is is' = differ_as (stays joins.none) (ap (at h) (sym is)) (ap (at h) (sym is'))
+  one_differs n j xs v w good e e' d = rw (e, e') (set_differs n j xs v w good d)

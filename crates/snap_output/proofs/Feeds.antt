@@ -1,6 +1,6 @@
 -- How many line feeds the printed texts of a report have (`feeds`): numbers have none, and a line has one at its end.
 use Rattle.std.proofs.Common.{◌≡◌, ℕ, zero, suc, ◌+◌, ◌≤◌, ◌/◌, ◌%◌, Bool, true, false, List, [], ◌∷◌, ◌++◌, length}
-use Rattle.std.proofs.Common.{Option, Some, None, codes, decimal, nat_eq, nat_lt, if◌then◌else◌, refl, sym, ap, ◌∙◌}
+use Rattle.std.proofs.Common.{Option, decimal, nat_eq, nat_lt, if◌then◌else◌, refl, sym, ◌∙◌}
 use Rattle.std.proofs.Common.{slice_set, arith, length-set}
 use Rattle.std.proofs.lemmas.Bool.{ne_eqb}
 use Rattle.std.specs.List.{AllByRecursion}
@@ -8,23 +8,21 @@ use Rattle.std.specs.Prelude.{bytes_eq, ◌==◌}
 use Rattle.std.specs.Fmt.{digit_glyph, digits, digits_onto}
 use Rattle.snap_words.specs.Word.{Word}
 use Rattle.snap_words.specs.declared.kind.KindTag.{KindTag}
-use Rattle.snap_words.specs.declared.kind.KindTag.TheVariants as kind
+use Rattle.snap_semantics.specs.declared.event.Event.{Event}
+use Rattle.snap_semantics.specs.declared.event.Happening.{Happening}
 use Rattle.snap_semantics.specs.declared.process.Activity.{Activity}
 use Rattle.snap_semantics.specs.declared.process.Cause.{Cause}
-use Rattle.snap_semantics.specs.declared.process.Cause.TheVariants as cause
 use Rattle.snap_semantics.specs.declared.process.Op.{Op}
-use Rattle.snap_semantics.specs.declared.process.Op.TheVariants as op
 use Rattle.snap_semantics.specs.declared.process.Status.{Status}
-use Rattle.snap_semantics.specs.declared.process.Status.TheVariants.{Idle, Busy, Trapped, Crashed}
-use Rattle.snap_semantics.specs.Report.{bank_lines, bit_line, cause_text, head_line, link_text, list_local}
-use Rattle.snap_semantics.specs.Report.{locals_lines, locals_text, number_local, numbers_text, op_text}
-use Rattle.snap_semantics.specs.Report.{register_lines, row_lines, status_text, stop_text, values_line, view_line}
-use Rattle.snap_semantics.specs.Report.{view_lines, word_line, word_lines, word_local, word_text, words_local}
+use Rattle.snap_semantics.specs.Report.{bank_lines, bit_line, cause_text, event_line, happening_text, head_line}
+use Rattle.snap_semantics.specs.Report.{link_text, list_local, locals_lines, number_local, numbers_text, op_text}
+use Rattle.snap_semantics.specs.Report.{row_lines, status_text, stop_text, values_line, view_line, view_lines}
+use Rattle.snap_semantics.specs.Report.{word_line, word_lines, word_local, word_text, words_local}
 use Rattle.snap_semantics.specs.Source.{Name}
-use Rattle.snap_semantics.specs.State.{Locals, Memory, NameMap, value_at, with_value}
+use Rattle.snap_semantics.specs.State.{NameMap, value_at, with_value}
 use Rattle.snap_semantics.specs.Table.{with_bit_at}
 use Rattle.snap_output.proofs.Splits.{IsInOrder, places_order, views_order, words_order}
-use Rattle.snap_output.proofs.Wholes.{feeds, feeds_append, feeds_both}
+use Rattle.snap_output.proofs.Wholes.{feeds, feeds_append}
 
 -- each digit of a number is one of the bytes from 48 on
 pub each_digit : (P : ℕ → Type 0) → ((b : ℕ) → 48 ≤ b → P b) → (n : ℕ) → AllByRecursion P (decimal n)
@@ -58,41 +56,25 @@ decimal_plain n =
 
 pub numbers_plain : (xs : List ℕ) → feeds (numbers_text xs) ≡ 0
 numbers_plain [] = refl
-numbers_plain (x ∷ xs) =
-    feeds_append (decimal x) (numbers_text xs)
-    ∙ (let d = decimal_plain x in let h = numbers_plain xs in omega (arith, d, h))
+numbers_plain (x ∷ xs) = omega (arith, feeds_append, decimal_plain, numbers_plain xs)
 
 word_plain : (g : KindTag) (x : Word) → feeds (word_text g x) ≡ 0
-word_plain kind.Seq x = simp (feeds_append, decimal_plain, numbers_plain)
-word_plain kind.Bits x = simp (feeds_append, decimal_plain, numbers_plain)
-word_plain kind.Multi x = simp (feeds_append, decimal_plain)
+word_plain g x = grind (arith, feeds_append, decimal_plain, numbers_plain)
 
 cause_plain : (c : Cause) → feeds (cause_text c) ≡ 0
-cause_plain cause.Index = refl
-cause_plain cause.Overflow = refl
-cause_plain cause.NotABit = refl
-cause_plain cause.Owner = refl
-cause_plain cause.Nested = refl
-cause_plain cause.BadEnd = refl
-cause_plain cause.OffEnd = refl
+cause_plain c = grind arith
 
 pub op_plain : (o : Op) → feeds (op_text o) ≡ 0
-op_plain op.Scan = refl
-op_plain (op.Update word value) = simp (feeds_append, decimal_plain)
+op_plain o = grind (arith, feeds_append, decimal_plain)
 
 link_plain : (link : Option ℕ) → feeds (link_text link) ≡ 0
-link_plain None = refl
-link_plain (Some k) = decimal_plain k
+link_plain link = grind (arith, decimal_plain)
 
 stop_plain : (was : Option Activity) → feeds (stop_text was) ≡ 0
-stop_plain None = refl
-stop_plain (Some a) = decimal_plain a.line
+stop_plain was = grind (arith, decimal_plain)
 
 status_plain : (s : Status) → feeds (status_text s) ≡ 0
-status_plain Idle = refl
-status_plain (Busy a) = simp (feeds_append, decimal_plain, op_plain, link_plain)
-status_plain (Trapped c a) = simp (feeds_append, decimal_plain, cause_plain)
-status_plain (Crashed was) = stop_plain was
+status_plain s = grind (arith, feeds_append, decimal_plain, op_plain, link_plain, cause_plain, stop_plain)
 
 pub head_feeds : (i : ℕ) (s : Status) → feeds (head_line i s) ≡ 1
 head_feeds i s = simp (feeds_append, decimal_plain, status_plain)
@@ -108,25 +90,27 @@ bit_feeds bank i j x h = simp (feeds_append, decimal_plain) (omega (arith, h))
 
 pub row_feeds : (bank : List ℕ) (i j : ℕ) (xs : List ℕ) → feeds bank ≡ 0 → feeds (row_lines bank i j xs) ≡ length xs
 row_feeds bank i j [] h = refl
-row_feeds bank i j (x ∷ xs) h =
-    feeds_append (bit_line bank i j x) (row_lines bank i (j + 1) xs)
-    ∙ (let first = bit_feeds bank i j x h in let rest = row_feeds bank i (j + 1) xs h in omega (arith, first, rest))
+row_feeds bank i j (x ∷ xs) h = omega (arith, feeds_append, bit_feeds bank i j x h, row_feeds bank i (j + 1) xs h)
 
 pub view_feeds : (i : ℕ) (view : List ℕ) → feeds (view_line i view) ≡ 1
 view_feeds i view = simp (feeds_append, decimal_plain, numbers_plain)
+
+happening_plain : (h : Happening) → feeds (happening_text h) ≡ 0
+happening_plain h = grind (arith, op_plain, numbers_plain)
+
+pub event_feeds : (e : Event) → feeds (event_line e) ≡ 1
+event_feeds e = simp (feeds_append, decimal_plain, happening_plain)
 
 -- lists of as many elements, each text of which has as many lines
 same_feeds : {A : Type 0} {f : ℕ → A → List ℕ} {F : ℕ → List A → List ℕ} → IsInOrder f F →
     ((n : ℕ) (x y : A) → feeds (f n x) ≡ feeds (f n y)) → (n : ℕ) (xs ys : List A) → length xs ≡ length ys →
     feeds (F n xs) ≡ feeds (F n ys)
 same_feeds order each n [] [] e = refl
-same_feeds order each n [] (y ∷ ys) e = absurd (omega (arith, e))
-same_feeds order each n (x ∷ xs) [] e = absurd (omega (arith, e))
 same_feeds {f = f} {F = F} order each n (x ∷ xs) (y ∷ ys) e =
-    ap feeds (order.more n x xs)
-    ∙ feeds_both (f n x) (f n y) (F (n + 1) xs) (F (n + 1) ys) (each n x y)
-    (same_feeds order each (n + 1) xs ys (omega (arith, e)))
-    ∙ sym (ap feeds (order.more n y ys))
+    let first = each n x y in
+    let rest = same_feeds order each (n + 1) xs ys (omega (arith, e)) in
+    simp order.more (omega (arith, feeds_append))
+same_feeds order each n _ _ e = absurd (omega (arith, e))
 
 -- another word, another bit and another view, each in its place
 pub word_set : (g : KindTag) (ws : List Word) (k : ℕ) (x : Word) →
@@ -149,24 +133,8 @@ bit_set bank rows i j x h = set 1 rows i
         feeds (bank_lines bank n (with_bit_at rows i j x)) ≡ feeds (bank_lines bank n rows)
     set n [] i = refl
     set n (r ∷ rows) zero =
-        feeds_both (row_lines bank n 1 (slice_set r j x)) (row_lines bank n 1 r) (bank_lines bank (n + 1) rows)
-        (bank_lines bank (n + 1) rows)
-        (row_feeds bank n 1 (slice_set r j x) h ∙ length-set r j x ∙ sym (row_feeds bank n 1 r h)) refl
-    set n (r ∷ rows) (suc i) =
-        feeds_both (row_lines bank n 1 r) (row_lines bank n 1 r) (bank_lines bank (n + 1) (with_bit_at rows i j x))
-        (bank_lines bank (n + 1) rows) refl (set (n + 1) rows i)
-
--- the registers, bank by bank
-pub registers_apart : (g : KindTag) (m : Memory) → feeds (register_lines g m)
-    ≡ feeds (word_lines g 1 m.words) + feeds (bank_lines (codes "q") 1 m.q) + feeds (bank_lines (codes "p") 1 m.p)
-    + feeds (view_lines 1 m.views)
-registers_apart g m = omega (arith, feeds_append)
-
--- the locals, sort by sort
-pub locals_apart : (g : KindTag) (l : Locals) → feeds (locals_text g l)
-    ≡ feeds (locals_lines number_local l.scalars) + feeds (locals_lines list_local l.rows)
-    + feeds (locals_lines (λ x vs. words_local g x 1 vs) l.words) + feeds (locals_lines list_local l.views)
-locals_apart g l = omega (arith, feeds_append)
+        omega (arith, feeds_append, row_feeds bank n 1 (slice_set r j x) h, row_feeds bank n 1 r h, length-set r j x)
+    set n (r ∷ rows) (suc i) = omega (arith, feeds_append, set (n + 1) rows i)
 
 pub number_feeds : (x : Name) (v : ℕ) → feeds (number_local x v) ≡ feeds x + 1
 number_feeds x v = simp (feeds_append, decimal_plain) (omega arith)
@@ -195,10 +163,8 @@ value_set f d x v (e ∷ es) h = by_case (bytes_eq x e.0) h (value_set f d x v e
         feeds (locals_lines f (with_value x v es)) ≡ feeds (locals_lines f es)) →
         feeds (locals_lines f (if b then (e.0, v) ∷ es else e ∷ with_value x v es))
         ≡ feeds (f e.0 e.1 ++ locals_lines f es)
-    by_case true h rest =
-        feeds_both (f e.0 v) (f e.0 e.1) (locals_lines f es) (locals_lines f es) (h e.0) refl
-    by_case false h rest =
-        feeds_both (f e.0 e.1) (f e.0 e.1) (locals_lines f (with_value x v es)) (locals_lines f es) refl (rest h)
+    by_case true h rest = omega (arith, feeds_append, h e.0)
+    by_case false h rest = omega (arith, feeds_append, rest h)
 
 pub number_set : (x : Name) (v : ℕ) (es : NameMap ℕ) →
     feeds (locals_lines number_local (with_value x v es)) ≡ feeds (locals_lines number_local es)

@@ -1,27 +1,27 @@
 -- What a trace prints of one item, made from the states before and after the item, is what the reports of the run
 -- give.
 use Rattle.std.proofs.Common.{◌≡◌, ℕ, suc, ◌+◌, ◌-◌, ◌<◌, List, [], ◌∷◌, ◌++◌, length, map, take, codes, decimal}
-use Rattle.std.proofs.Common.{refl, sym, ap, ◌∙◌, append_assoc, append-nil, arith, length-set}
+use Rattle.std.proofs.Common.{refl, ap, ◌∙◌, append_assoc, append-nil, arith, length-set}
 use Rattle.std.proofs.lemmas.List.{length-take-le}
 use Rattle.std.proofs.Math.Seq.{take-suc}
 use Rattle.snap_words.specs.Shape.{Counts}
 use Rattle.snap_semantics.specs.declared.process.Item.{Item}
 use Rattle.snap_semantics.specs.declared.process.Item.TheVariants.{Step}
 use Rattle.snap_semantics.specs.Report.{event_lines, processes_lines, register_lines, values_line}
-use Rattle.snap_semantics.specs.Run.{after, event_of, events}
+use Rattle.snap_semantics.specs.Run.{event_of}
 use Rattle.snap_semantics.specs.Source.{Source}
 use Rattle.snap_semantics.specs.State.{State, initial, values}
 use Rattle.snap_semantics.specs.Table.{done, who}
 use Rattle.snap_semantics.specs.Token.{lines_of}
 use Rattle.snap_runs.specs.Run.{Run, events_of, item, outcome, state}
 use Rattle.snap_runs.proofs.Embedding.{next_state}
-use Rattle.snap_text.specs.Changes.{behind_first, changes_text, text_between}
-use Rattle.snap_text.specs.Owned.{owned_text}
+use Rattle.snap_record.proofs.Longer.{events_append}
+use Rattle.snap_text.specs.Changes.{behind_first, changes_text}
 use Rattle.snap_listing.specs.LineTexts.{written}
 use Rattle.snap_report.specs.RunReport.{report_at}
 use Rattle.snap_output.specs.Between.{between, process_text, state_text}
-use Rattle.snap_output.specs.Step.{did_line, done_text}
-use Rattle.snap_output.specs.Trace.{item_changes, item_line, item_text, report_lines}
+use Rattle.snap_output.specs.Step.{done_text}
+use Rattle.snap_output.specs.Trace.{item_changes, item_line, item_text}
 use Rattle.snap_output.proofs.Feeds.{decimal_plain}
 use Rattle.snap_output.proofs.Kept.{moves}
 use Rattle.snap_output.proofs.Parts.{narrowed}
@@ -39,9 +39,8 @@ head_whole t total =
     (before (codes "report at " ++ decimal t ++ codes " of " ++ decimal total) (codes "\n") new_line).whole
 
 behind_one : (xs ys : List (List ℕ)) → length xs ≡ 1 → behind_first (xs ++ ys) ≡ ys
-behind_one [] ys e = absurd (omega (arith, e))
 behind_one (x ∷ []) ys e = refl
-behind_one (x ∷ y ∷ xs) ys e = absurd (omega (arith, e))
+behind_one _ ys e = absurd (omega (arith, e))
 
 regroup : (f v r p e : List ℕ) → (((f ++ v) ++ r) ++ p) ++ e ≡ f ++ (((v ++ r) ++ p) ++ e)
 regroup f v r p e = simp append_assoc
@@ -61,31 +60,19 @@ lines_are r t =
     ((head_whole t total).count ∙ head_feeds t total)
 
 -- the events of one item more
-events_more : (s : Source) (n : Counts) (S : State) (k : ℕ) (xs : List Item) (x : Item) →
-    events s n S k (xs ++ x ∷ []) ≡ events s n S k xs ++ event_of (k + length xs) x (done s n (after s n S xs) x).1
-events_more s n S k [] x =
-    append-nil (event_of k x (done s n S x).1)
-    ∙ (let e : k ≡ k + 0 = omega arith in ap (λ m. event_of m x (done s n S x).1) e)
-events_more s n S k (y ∷ xs) x =
-    let e : k + 1 + length xs ≡ k + suc (length xs) = omega arith in
-    let S' = (done s n S y).0 in
-    let first = event_of k y (done s n S y).1 in
-    ap (λ es. first ++ es) (events_more s n S' (k + 1) xs x
-    ∙ ap (λ m. events s n S' (k + 1) xs ++ event_of m x (done s n (after s n S' xs) x).1) e)
-    ∙ sym (append_assoc first (events s n S' (k + 1) xs)
-    (event_of (k + suc (length xs)) x (done s n (after s n S' xs) x).1))
-
 next_events : (r : Run) (t : ℕ) → t < length r.items →
     events_of r (suc t) ≡ events_of r t ++ event_of (suc t) (item r (suc t)) (outcome r (suc t))
 next_events r t h =
     let s = r.source in
-    let n = r.shape in
-    let S = initial s n in
     let x = item r (suc t) in
-    let e : 1 + length (take t r.items) ≡ suc t =
+    let number : 1 + length (take t r.items) ≡ suc t =
     (let l = length-take-le t r.items (omega (arith, h)) in omega (arith, l)) in
-    ap (events s n S 1) (take-suc r.items t (Step 0) h) ∙ events_more s n S 1 (take t r.items) x
-    ∙ ap (λ m. events_of r t ++ event_of m x (outcome r (suc t))) e
+    rw (
+      take-suc r.items t (Step 0) h,
+      events_append s r.shape (initial s r.shape) 1 (take t r.items) (x ∷ []),
+      number,
+      append-nil,
+    ) refl
 
 -- what changed
 changed : (r : Run) (t : ℕ) → t < length r.items → 0 < who (item r (suc t)) →
@@ -95,28 +82,18 @@ changed : (r : Run) (t : ℕ) → t < length r.items → 0 < who (item r (suc t)
     (event_of (suc t) (item r (suc t)) (outcome r (suc t))))
 unfolding item_changes
 changed r t h one there =
-    let g = r.source.kind in
     let x = item r (suc t) in
     let S = state r t in
-    let S' = (done r.source r.shape S x).0 in
-    let new = event_of (suc t) x (outcome r (suc t)) in
-    let next : lines_of (state_text g (state r (suc t)) (events_of r (suc t)))
-    ≡ lines_of (state_text g S' (events_of r t ++ new)) =
-    ap (λ (T : State). lines_of (state_text g T (events_of r (suc t)))) (next_state r t h)
-    ∙ ap (λ es. lines_of (state_text g S' es)) (next_events r t h) in
-    ap (λ ls. text_between (lines_of (owned_text [] ls)) (report_lines r (suc t))) (lines_are r t)
-    ∙ ap (λ ls. text_between (lines_of (owned_text [] (lines_of (state_text g S (events_of r t)))))
-    (lines_of (owned_text [] ls))) (lines_are r (suc t) ∙ next)
-    ∙ narrowed g (who x) S S' (events_of r t) new one there (moves g r.source r.shape S x)
+    rw (lines_are r t, lines_are r (suc t), next_state r t h, next_events r t h)
+    (narrowed r.source.kind (who x) S (done r.source r.shape S x).0 (events_of r t)
+    (event_of (suc t) x (outcome r (suc t))) one there (moves r.source.kind r.source r.shape S x))
 
 -- what is said of an item is said of it as it is done
 pub said : (r : Run) (t : ℕ) → t < length r.items → 0 < who (item r (suc t)) →
     who (item r (suc t)) - 1 < length (state r t).processes →
     done_text (map written r.source.lines) r.source r.shape (state r t) (suc t) (item r (suc t)) ≡ item_text r (suc t)
 unfolding done_text item_line
-said r t h one there =
-    ap (λ text. did_line (map written r.source.lines) (state r t) (suc t) (item r (suc t)) (outcome r (suc t)) ++ text)
-    (sym (changed r t h one there))
+said r t h one there = rw (changed r t h one there) refl
 
 -- there are as many processes as before
 pub processes_kept : (s : Source) (n : Counts) (S : State) (x : Item) →

@@ -1,19 +1,15 @@
 -- After an item a report has as many lines of registers and of locals as before it, so that a trace compares them
 -- line by line.
-use Rattle.std.proofs.Common.{◌≡◌, ℕ, ◌-◌, List, [], Option, Some, None, Result, Ok, Err, codes, slice_set, refl, sym}
+use Rattle.std.proofs.Common.{◌≡◌, ℕ, ◌-◌, ◌<◌, length, Option, Some, None, Result, Ok, slice_set, refl, sym, ap}
 use Rattle.std.proofs.Common.{◌∙◌, arith}
-use Rattle.std.proofs.lemmas.List.{set-get_or}
+use Rattle.std.proofs.lemmas.List.{get_or-set_same, set-get_or}
 use Rattle.snap_words.specs.Shape.{Counts}
 use Rattle.snap_words.specs.declared.kind.KindTag.{KindTag}
 use Rattle.snap_semantics.specs.Report.{head_line, locals_text, process_lines, register_lines}
-use Rattle.snap_semantics.specs.Source.{Name, Source, instr_at}
-use Rattle.snap_semantics.specs.State.{Locals, Memory, Process, State, nobody, process_at, value_at}
-use Rattle.snap_semantics.specs.State.{with_memory_words, with_row, with_scalar, with_view, with_words}
-use Rattle.snap_semantics.specs.Table.{Effect, Goes, Answers, Finishes, effect_at, leave, step, call, called, call_skip}
-use Rattle.snap_semantics.specs.Table.{crash, done, bits_of, who, with_bit_at, with_memory_bits, with_memory_views}
+use Rattle.snap_semantics.specs.Source.{Source, instr_at}
+use Rattle.snap_semantics.specs.State.{Locals, Memory, Process, State, nobody, process_at}
+use Rattle.snap_semantics.specs.Table.{Effect, Goes, effect_at, leave, step, call, called, call_skip, crash, done, who}
 use Rattle.snap_semantics.specs.Value.{Context}
-use Rattle.snap_words.specs.Word.{Word}
-use Rattle.snap_semantics.specs.declared.instr.BitBank.{BitBank}
 use Rattle.snap_semantics.specs.declared.instr.BitBank.TheVariants as bits
 use Rattle.snap_semantics.specs.declared.instr.Instr.{Instr}
 use Rattle.snap_semantics.specs.declared.process.Activity.{Activity}
@@ -21,89 +17,37 @@ use Rattle.snap_semantics.specs.declared.process.Cause.{Cause}
 use Rattle.snap_semantics.specs.declared.process.Item.{Item}
 use Rattle.snap_semantics.specs.declared.process.Item.TheVariants as item
 use Rattle.snap_semantics.specs.declared.process.Op.{Op}
+use Rattle.snap_semantics.specs.declared.process.Outcome.{Outcome}
+use Rattle.snap_semantics.specs.declared.process.Outcome.TheVariants.{Skipped}
 use Rattle.snap_semantics.specs.declared.process.Reason.{Reason}
 use Rattle.snap_semantics.specs.declared.process.Status.{Status}
 use Rattle.snap_semantics.specs.declared.process.Status.TheVariants.{Idle, Busy, Trapped, Crashed}
-use Rattle.snap_runs.proofs.Effects.{Does, goes, Writes, nothing, sets_scalar, sets_row, sets_word, sets_view}
-use Rattle.snap_runs.proofs.Effects.{puts_word, puts_bit, puts_view, line_does}
-use Rattle.snap_output.proofs.Wholes.{feeds, feeds_both}
-use Rattle.snap_output.proofs.Feeds.{head_feeds, bit_set, list_set, locals_apart, number_set, registers_apart}
-use Rattle.snap_output.proofs.Feeds.{view_set, word_set, words_set}
+use Rattle.snap_runs.proofs.Effects.{Does, goes, Writes, nothing, sets_word, puts_bit, line_does}
+use Rattle.snap_output.proofs.Wholes.{feeds, feeds_append, feeds_both}
+use Rattle.snap_output.proofs.Feeds.{head_feeds, bit_set, list_set, number_set, view_set, word_set, words_set}
+
+-- lines of which one is set
+ruleset same_lines = (feeds_append, number_set, list_set, view_set, word_set, bit_set)
 
 module _ (g : KindTag) (m0 : Memory) (l0 : Locals) where
   -- registers and locals with as many lines
-  pub record Kept (m : Memory) (l : Locals) : Type 0 where
-    pub registers : feeds (register_lines g m) ≡ feeds (register_lines g m0)
-    pub locals : feeds (locals_text g l) ≡ feeds (locals_text g l0)
-
-  scalar_kept : (m : Memory) (l : Locals) (x : Name) (v : ℕ) → Kept m l → Kept m (with_scalar x v l)
-  scalar_kept m l x v h = record {
-    registers = h.registers;
-    locals = omega (arith, locals_apart g, number_set x v l.scalars, h.locals);
-  }
-
-  row_kept : (m : Memory) (l : Locals) (x : Name) (v : List ℕ) → Kept m l → Kept m (with_row x v l)
-  row_kept m l x v h = record {
-    registers = h.registers;
-    locals = omega (arith, locals_apart g, list_set x v l.rows, h.locals);
-  }
-
-  view_kept : (m : Memory) (l : Locals) (x : Name) (v : List ℕ) → Kept m l → Kept m (with_view x v l)
-  view_kept m l x v h = record {
-    registers = h.registers;
-    locals = omega (arith, locals_apart g, list_set x v l.views, h.locals);
-  }
-
-  word_kept : (m : Memory) (l : Locals) (x : Name) (k : ℕ) (w : Word) → Kept m l →
-      Kept m (with_words x (slice_set (value_at x l.words []) k w) l)
-  word_kept m l x k w h = record {
-    registers = h.registers;
-    locals = omega (arith, locals_apart g, words_set g x k w l.words, h.locals);
-  }
-
-  register_kept : (m : Memory) (l : Locals) (k : ℕ) (w : Word) → Kept m l →
-      Kept (with_memory_words (slice_set m.words k w) m) l
-  register_kept m l k w h = record {
-    registers = omega (arith, registers_apart g, word_set g m.words k w, h.registers);
-    locals = h.locals;
-  }
-
-  bit_kept : (b : BitBank) (m : Memory) (l : Locals) (i j x : ℕ) → Kept m l →
-      Kept (with_memory_bits b (with_bit_at (bits_of b m) i j x) m) l
-  bit_kept bits.Q m l i j x h = record {
-    registers = omega (arith, registers_apart g, bit_set (codes "q") m.q i j x refl, h.registers);
-    locals = h.locals;
-  }
-  bit_kept bits.P m l i j x h = record {
-    registers = omega (arith, registers_apart g, bit_set (codes "p") m.p i j x refl, h.registers);
-    locals = h.locals;
-  }
-
-  views_kept : (m : Memory) (l : Locals) (k : ℕ) (v : List ℕ) → Kept m l →
-      Kept (with_memory_views (slice_set m.views k v) m) l
-  views_kept m l k v h = record {
-    registers = omega (arith, registers_apart g, view_set m.views k v, h.registers);
-    locals = h.locals;
-  }
+  record Kept (m : Memory) (l : Locals) : Type 0 where
+    registers : feeds (register_lines g m) ≡ feeds (register_lines g m0)
+    locals : feeds (locals_text g l) ≡ feeds (locals_text g l0)
 
   -- a line that goes on leaves as many
   Keeps : Result Effect Cause → Type 0
   Keeps (Ok (Goes m l link line)) = Kept m l
-  Keeps (Ok (Answers v)) = Unit {0}
-  Keeps (Ok Finishes) = Unit {0}
-  Keeps (Err c) = Unit {0}
+  Keeps _ = Unit {0}
 
   -- what a line writes
   wrote : (c : Context) (m : Memory) {i : Instr} {m' : Memory} {l' : Locals} → Writes c m i m' l' →
       Kept m c.locals → Kept m' l'
   wrote c m (nothing i) h = h
-  wrote c m (sets_scalar i x v) h = scalar_kept m c.locals x v h
-  wrote c m (sets_row i x v) h = row_kept m c.locals x v h
-  wrote c m (sets_word i x k w) h = word_kept m c.locals x k w h
-  wrote c m (sets_view i x v) h = view_kept m c.locals x v h
-  wrote c m (puts_word j t k w is) h = register_kept m c.locals k w h
-  wrote c m (puts_bit b j i e k p x there) h = bit_kept b m c.locals k p x h
-  wrote c m (puts_view j x k) h = views_kept m c.locals k (value_at x c.locals.views []) h
+  wrote c m (puts_bit bits.Q j i e k p x there) h = omega (arith, same_lines)
+  wrote c m (puts_bit bits.P j i e k p x there) h = omega (arith, same_lines)
+  wrote c m (sets_word i x k w) h = omega (arith, same_lines, words_set g x k w c.locals.words)
+  wrote c m _ h = omega (arith, same_lines)
 
   -- each form of a line
   keeps : (c : Context) (m : Memory) (a : Activity) {i : Instr} {r : Result Effect Cause} → Does c m a i r →
@@ -119,6 +63,9 @@ module _ (g : KindTag) (m0 : Memory) (l0 : Locals) where
   keeps_at s c m a None h = tt
   keeps_at s c m a (Some i) h = keeps c m a (line_does s c m a i) h
 
+  as_they_are : Kept m0 l0
+  as_they_are = record { registers = refl; locals = refl }
+
 -- One process and the registers have changed, each into as many lines.
 pub record IsMove (g : KindTag) (i : ℕ) (S S' : State) : Type 0 where
   pub process : Process
@@ -126,79 +73,84 @@ pub record IsMove (g : KindTag) (i : ℕ) (S S' : State) : Type 0 where
   pub lines : feeds (process_lines g i process) ≡ feeds (process_lines g i (process_at S i))
   pub registers : feeds (register_lines g S'.memory) ≡ feeds (register_lines g S.memory)
 
-stays : (g : KindTag) (i : ℕ) (S : State) → IsMove g i S S
-stays g i S = record {
-  process = process_at S i;
-  processes = sym (set-get_or S.processes (i - 1) nobody);
-  lines = refl;
-  registers = refl;
-}
+-- the process behind a move
+pub process_behind : {g : KindTag} {i : ℕ} {S S' : State} (h : IsMove g i S S') → i - 1 < length S.processes →
+    process_at S' i ≡ h.process
+process_behind h there = rw (h.processes, get_or-set_same)
+
+-- what an item leaves, with its outcome: a move, which is none where the item is skipped
+abbrev Moves : KindTag → ℕ → State → State × Outcome → Type 0
+Moves g i S to = IsMove g i S to.0 × ((r : Reason) → to.1 ≡ Skipped r → to.0 ≡ S)
+
+stays : (g : KindTag) (i : ℕ) (S : State) (o : Outcome) → Moves g i S (S, o)
+stays g i S o = (
+  record {
+    process = process_at S i;
+    processes = sym (set-get_or S.processes (i - 1) nobody);
+    lines = refl;
+    registers = refl;
+  },
+  λ r e. refl,
+)
 
 -- the process stands elsewhere
-status_feeds : (g : KindTag) (i : ℕ) (p q : Process) → feeds (locals_text g q.locals) ≡ feeds (locals_text g p.locals) →
-    feeds (process_lines g i q) ≡ feeds (process_lines g i p)
-status_feeds g i p q h =
-    feeds_both (head_line i q.status) (head_line i p.status) (locals_text g q.locals) (locals_text g p.locals)
-    (head_feeds i q.status ∙ sym (head_feeds i p.status)) h
-
-stands : (g : KindTag) (i : ℕ) (S : State) (t : Status) →
-    IsMove g i S (record {
-      memory = S.memory;
-      processes = slice_set S.processes (i - 1) (record { status = t; locals = (process_at S i).locals });
-    })
-stands g i S t = record {
-  process = record { status = t; locals = (process_at S i).locals };
-  processes = refl;
-  lines = status_feeds g i (process_at S i) (record { status = t; locals = (process_at S i).locals }) refl;
-  registers = refl;
-}
+stands : (g : KindTag) (i : ℕ) (S : State) (m : Memory) (p : Process) (o : Outcome) →
+    Kept g S.memory (process_at S i).locals m p.locals → ((r : Reason) → o ≡ Skipped r → ⊥) →
+    Moves g i S (record { memory = m; processes = slice_set S.processes (i - 1) p }, o)
+stands g i S m p o h happens =
+    let old = process_at S i in (
+      record {
+        process = p;
+        processes = refl;
+        lines =
+            feeds_both (head_line i p.status) (head_line i old.status) (locals_text g p.locals)
+            (locals_text g old.locals) (head_feeds i p.status ∙ sym (head_feeds i old.status)) h.locals;
+        registers = h.registers;
+      },
+      λ r e. absurd (happens r e),
+    )
 
 left : (g : KindTag) (S : State) (i : ℕ) (a : Activity) (r : Result Effect Cause) →
-    Keeps g S.memory (process_at S i).locals r → IsMove g i S (leave S i a (process_at S i).locals r).0
+    Keeps g S.memory (process_at S i).locals r → Moves g i S (leave S i a (process_at S i).locals r)
 unfolding Keeps
-left g S i a (Ok (Goes m l link line)) h = record {
-  process = record { status = Busy (record { op = a.op; line = line; link = link }); locals = l };
-  processes = refl;
-  lines =
-      status_feeds g i (process_at S i)
-      (record { status = Busy (record { op = a.op; line = line; link = link }); locals = l }) h.locals;
-  registers = h.registers;
-}
-left g S i a (Ok (Answers v)) h = stands g i S Idle
-left g S i a (Ok Finishes) h = stands g i S Idle
-left g S i a (Err e) h = stands g i S (Trapped e a)
+left g S i a (Ok (Goes m l link line)) h = stands g i S m _ _ h (λ r e. cc)
+left g S i a _ h = stands g i S S.memory _ _ (as_they_are g _ _) (λ r e. cc)
 
 stepped : (g : KindTag) (s : Source) (n : Counts) (S : State) (i : ℕ) (t : Status) →
-    IsMove g i S (step s n S i (process_at S i) t).0
-stepped g s n S i Idle = stays g i S
-stepped g s n S i (Trapped e a) = stays g i S
-stepped g s n S i (Crashed was) = stays g i S
+    Moves g i S (step s n S i (process_at S i) t)
 stepped g s n S i (Busy a) =
     let p = process_at S i in
     let c : Context = record { shape = n; me = i; op = a.op; locals = p.locals; place = 0 } in
     left g S i a (effect_at s c S.memory a (instr_at s.lines a.line))
-    (keeps_at g S.memory p.locals s c S.memory a (instr_at s.lines a.line) (record { registers = refl; locals = refl }))
+    (keeps_at g S.memory p.locals s c S.memory a (instr_at s.lines a.line) (as_they_are g S.memory p.locals))
+stepped g s n S i _ = stays g i S _
 
 asked : (g : KindTag) (s : Source) (S : State) (i : ℕ) (o : Op) (r : Option Reason) →
-    IsMove g i S (called s S i (process_at S i) o r).0
-asked g s S i o (Some r) = stays g i S
-asked g s S i o None = stands g i S _
+    Moves g i S (called s S i (process_at S i) o r)
+asked g s S i o (Some r) = stays g i S _
+asked g s S i o None = stands g i S S.memory _ _ (as_they_are g _ _) (λ r e. cc)
 
 calls : (g : KindTag) (s : Source) (n : Counts) (S : State) (i : ℕ) (o : Op) (t : Status) →
-    IsMove g i S (call s n S i o (process_at S i) t).0
+    Moves g i S (call s n S i o (process_at S i) t)
 calls g s n S i o Idle = asked g s S i o (call_skip s.kind n i o)
-calls g s n S i o (Busy a) = stays g i S
-calls g s n S i o (Trapped e a) = stays g i S
-calls g s n S i o (Crashed was) = stays g i S
+calls g s n S i o _ = stays g i S _
 
-crashes : (g : KindTag) (S : State) (i : ℕ) (t : Status) → IsMove g i S (crash S i (process_at S i) t).0
-crashes g S i Idle = stands g i S (Crashed None)
-crashes g S i (Busy a) = stands g i S (Crashed (Some a))
-crashes g S i (Trapped e a) = stays g i S
-crashes g S i (Crashed was) = stays g i S
+crashes : (g : KindTag) (S : State) (i : ℕ) (t : Status) → Moves g i S (crash S i (process_at S i) t)
+crashes g S i (Trapped e a) = stays g i S _
+crashes g S i (Crashed was) = stays g i S _
+crashes g S i _ = stands g i S S.memory _ _ (as_they_are g _ _) (λ r e. cc)
+
+does : (g : KindTag) (s : Source) (n : Counts) (S : State) (x : Item) → Moves g (who x) S (done s n S x)
+does g s n S (item.Step i) = stepped g s n S i (process_at S i).status
+does g s n S (item.Call i o) = calls g s n S i o (process_at S i).status
+does g s n S (item.Crash i) = crashes g S i (process_at S i).status
 
 -- what an item does
 pub moves : (g : KindTag) (s : Source) (n : Counts) (S : State) (x : Item) → IsMove g (who x) S (done s n S x).0
-moves g s n S (item.Step i) = stepped g s n S i (process_at S i).status
-moves g s n S (item.Call i o) = calls g s n S i o (process_at S i).status
-moves g s n S (item.Crash i) = crashes g S i (process_at S i).status
+moves g s n S x = (does g s n S x).0
+
+-- an item that is skipped changes nothing
+pub skipped_stays : (s : Source) (n : Counts) (S S' : State) (x : Item) (r : Reason) →
+    done s n S x ≡ (S', Skipped r) → S' ≡ S
+skipped_stays s n S S' x r is =
+    sym (ap (λ (a : State × Outcome). a.0) is) ∙ (does s.kind s n S x).1 r (ap (λ (a : State × Outcome). a.1) is)

@@ -12,8 +12,7 @@ use Rattle.snap_semantics.specs.Source.{Name, Source}
 use Rattle.snap_semantics.specs.State.{Locals, NameMap, value_at, with_row, with_value}
 use Rattle.snap_asm_program.specs.NamedLines.{name_at}
 use Rattle.snap_machine.specs.WritePlace.{write_place_of}
-use Rattle.snap_machine.specs.Undo.{Place, Nowhere, WordRegister, BitRegister, ViewRegister, Scalar, Number, Row}
-use Rattle.snap_machine.specs.Undo.{LocalWord, LocalView, put_local}
+use Rattle.snap_machine.specs.Undo.{Place, Scalar, Number, Row, LocalWord, LocalView, put_local}
 use Rattle.snap_report.specs.ReportLines.{local_lines}
 use Rattle.snap_report.specs.WrittenLines.{named_lines, place_line, written_local, word_there}
 use Rattle.snap_output.proofs.Wholes.{feeds}
@@ -22,7 +21,7 @@ use Rattle.snap_output.proofs.Owned.{IsPlain}
 use Rattle.snap_output.proofs.Indented.{IsIndented, IsLocalLine, indented, indented_join, list_line, number_line}
 use Rattle.snap_output.proofs.Indented.{place_line as line_of_place, words_indented}
 use Rattle.snap_output.proofs.Named.{AreGood, IsSorted, entries_plain, slot_has, with_slot}
-use Rattle.snap_output.proofs.Splits.{all_are, entries_order, places_order, split, split_at}
+use Rattle.snap_output.proofs.Splits.{all_are, any, entries_order, places_order}
 use Rattle.snap_output.proofs.Differs.{Differs, at, differ_as, in_first, in_fourth, in_second, in_third}
 use Rattle.snap_output.proofs.Differs.{itself, one_differs, stays}
 
@@ -46,9 +45,8 @@ module _ {A : Type 0} (f : Name → A → List ℕ) (line : (x : Name) (v : A) �
       (at h (slice_get (with_value x v es) k)) (at h (slice_get es k))
   entry_differs h k v d differs =
       let x = name_at ns k in
-      one_differs indented_join h 0 k es (x, v) (x, value_at x es d)
-      (split indented_join (entries_order f) (λ (e : Name × A). IsPlain e.0) (λ n e. line e.0 e.1) 0 k es
-      (entries_plain ns es good))
+      one_differs indented_join (entries_order f) (λ (e : Name × A). IsPlain e.0) (λ n e. line e.0 e.1) h 0 k es (x, v)
+      (x, value_at x es d) (entries_plain ns es good)
       (with_slot ns es k v good.names.distinct good.names.not_empty good.named)
       (slot_has ns es k d good.names good.named) differs
 
@@ -87,8 +85,8 @@ module _ (g : KindTag) where
   places_differ x p vs w h =
       let v = slice_index_or vs p no_word in
       let line = λ (n : ℕ) (u : Word). indented (line_of_place g x n u h) in
-      differ_as (one_differs indented_join (word_local g x (1 + p)) 1 p vs w v
-      (split_at indented_join (places_order g x) line 1 vs p) refl (sym (set-get_or vs p no_word))
+      differ_as (one_differs indented_join (places_order g x) (λ u. Unit {0}) (λ n u good. line n u)
+      (word_local g x (1 + p)) 1 p vs w v (any vs) refl (sym (set-get_or vs p no_word))
       (itself indented_join (line (1 + p) w) (line (1 + p) v)
       (place_feeds g x (1 + p) w ∙ sym (place_feeds g x (1 + p) v))))
       (place_at x p (slice_get (slice_set vs p w) p)) (place_at x p (slice_get vs p))
@@ -151,10 +149,6 @@ module _ (g : KindTag) where
     -- what differs where a place was put back
     pub local_differs : (p : Place) → Differs IsIndented (locals_text g (put_local s p l)) (locals_text g l)
         (written_local g (put_local s p l) (write_place_of p)) (written_local g l (write_place_of p))
-    local_differs Nowhere = same_locals
-    local_differs (WordRegister k x) = same_locals
-    local_differs (BitRegister b i j x) = same_locals
-    local_differs (ViewRegister i v) = same_locals
     local_differs (Scalar k v) =
         in_first indented_join rows_are words_are views_are
         (value_differs (λ v. NumberValue v) number_line number_feeds s.scalars l.scalars k v 0 h.scalars)
@@ -165,3 +159,4 @@ module _ (g : KindTag) where
     local_differs (LocalView k v) =
         in_fourth indented_join scalars_are rows_are words_are
         (value_differs (λ v. ViewValue v) list_line list_feeds s.views l.views k v [] h.views)
+    local_differs _ = same_locals

@@ -1,24 +1,23 @@
 -- The locals of a process by their slots: a value that a name has is set at the slot of the name.
-use Rattle.std.proofs.Common.{◌≡◌, ℕ, zero, suc, Bool, true, false, List, [], ◌∷◌, ◌++◌, bytes_eq, slice_set, zip}
-use Rattle.std.proofs.Common.{if◌then◌else◌, nat_eq, refl, sym, ap, ◌∙◌, subst, append-nil}
-use Rattle.std.proofs.lemmas.Bool.{and_parts, ne_eqb, or_parts}
+use Rattle.std.proofs.Common.{◌≡◌, ℕ, zero, suc, true, false, List, [], ◌∷◌, ◌++◌, bytes_eq, slice_set, zip}
+use Rattle.std.proofs.Common.{nat_eq, refl, sym, ap, ◌∙◌, subst, append-nil, arith}
+use Rattle.std.proofs.lemmas.Bool.{and_parts, false≢true, ne_eqb, or_parts}
 use Rattle.std.proofs.lemmas.Bool.Decides.{same_from_decides, Decides-like}
 use Rattle.std.proofs.lemmas.Slice.Eq.{bytes_eq-Decides}
 use Rattle.std.specs.List.{AllByRecursion, list_all}
 use Rattle.snap_words.specs.Word.{Word}
 use Rattle.snap_semantics.specs.IsListing.{AreDistinct, IsListing, IsName}
 use Rattle.snap_semantics.specs.Source.{Name, Source}
-use Rattle.snap_semantics.specs.State.{Locals, NameMap, value_at, with_row, with_value}
+use Rattle.snap_semantics.specs.State.{Locals, NameMap, value_at, with_value}
 use Rattle.snap_semantics.specs.Token.{is_letter}
 use Rattle.snap_semantics.specs.Uses.{is_among}
+use Rattle.snap_listing.proofs.Alls.{all_rest}
 use Rattle.snap_asm_program.specs.NamedLines.{AreNames, name_at}
 use Rattle.snap_asm_program.proofs.Names.{names_of_rows, names_of_scalars, names_of_views, names_of_words}
-use Rattle.snap_machine.specs.Undo.{Place, Nowhere, WordRegister, BitRegister, ViewRegister, Scalar, Number, Row}
-use Rattle.snap_machine.specs.Undo.{LocalWord, LocalView, put_local}
+use Rattle.snap_machine.specs.Undo.{Place, Scalar, Number, Row, LocalWord, LocalView, put_local}
 use Rattle.snap_machine.specs.Configuration.{HasLocals}
 use Rattle.snap_machine.proofs.Values.{with_same}
 use Rattle.snap_output.proofs.Owned.{IsPlain}
-use Rattle.snap_output.proofs.Wholes.{feeds}
 
 -- the names of a map are the first ones of these
 abbrev pub IsNamed : {A : Type 0} → List Name → NameMap A → Type 0
@@ -35,17 +34,8 @@ named_zip (n ∷ ns) (v ∷ vs) = (refl, named_zip ns vs)
 named_before : {A : Type 0} (ns : List Name) (x : Name) (v : A) (es : NameMap A) → IsNamed ns (with_value x v es) →
     IsNamed ns es
 named_before ns x v [] h = tt
-named_before [] x v (e ∷ es) h = by_case (bytes_eq x e.0) h
-  where
-    by_case : (b : Bool) → IsNamed [] (if b then (e.0, v) ∷ es else e ∷ with_value x v es) → ⊥
-    by_case true h = h
-    by_case false h = h
-named_before (n ∷ ns) x v (e ∷ es) h = by_case (bytes_eq x e.0) h (named_before ns x v es)
-  where
-    by_case : (b : Bool) → IsNamed (n ∷ ns) (if b then (e.0, v) ∷ es else e ∷ with_value x v es) →
-        (IsNamed ns (with_value x v es) → IsNamed ns es) → (e.0 ≡ n) × IsNamed ns es
-    by_case true h rest = h
-    by_case false h rest = (h.0, rest h.1)
+named_before [] x v (e ∷ es) h = grind arith
+named_before (n ∷ ns) x v (e ∷ es) h = grind (arith, named_before ns x v es)
 
 bytes_eq-sym : (x y : Name) → bytes_eq x y ≡ bytes_eq y x
 bytes_eq-sym x y =
@@ -65,13 +55,11 @@ pub with_slot : {A : Type 0} (ns : List Name) (es : NameMap A) (k : ℕ) (v : A)
 with_slot ns [] k v d z h = refl
 with_slot [] (e ∷ es) k v d z h = absurd h
 with_slot (n ∷ ns) (e ∷ es) zero v d z h =
-    ap (λ b. if b then (e.0, v) ∷ es else e ∷ with_value n v es) ((bytes_eq-Decides n e.0).1 (sym h.0))
-    ∙ ap (λ x. (x, v) ∷ es) h.0
+    rw ((bytes_eq-Decides n e.0).1 (sym h.0)) (ap (λ x. (x, v) ∷ es) h.0)
 with_slot (n ∷ ns) (e ∷ es) (suc k) v d z h =
     let apart = or_parts (bytes_eq [] n) (is_among [] ns) z in
-    ap (λ b. if b then (e.0, v) ∷ es else e ∷ with_value (name_at ns k) v es)
-    (ap (bytes_eq (name_at ns k)) h.0 ∙ other_name ns k n d.0 apart.0)
-    ∙ ap (λ fs. e ∷ fs) (with_slot ns es k v d.1 apart.1 h.1)
+    rw (ap (bytes_eq (name_at ns k)) h.0 ∙ other_name ns k n d.0 apart.0)
+    (ap (λ fs. e ∷ fs) (with_slot ns es k v d.1 apart.1 h.1))
 
 -- what it has, set
 pub slot_has : {A : Type 0} (ns : List Name) (es : NameMap A) (k : ℕ) (d : A) → AreNames ns → IsNamed ns es →
@@ -80,26 +68,19 @@ slot_has ns es k d names h =
     sym (with_same (name_at ns k) d es)
     ∙ with_slot ns es k (value_at (name_at ns k) es d) names.distinct names.not_empty h
 
-differ : false ≡ true → ⊥
-differ h = absurd cc
-
 -- letters are no line feeds
 letter_plain : (b : ℕ) → is_letter b ≡ true → nat_eq b 10 ≡ false
-letter_plain b h = ne_eqb b 10 (λ e. differ (subst (λ (c : ℕ). is_letter c ≡ true) e h))
+letter_plain b h = ne_eqb b 10 (λ e. false≢true (rw e at h))
 
 letters_plain : (x : Name) → list_all is_letter x ≡ true → IsPlain x
 letters_plain [] h = refl
 letters_plain (b ∷ x) h =
     let first = and_parts (is_letter b) (list_all is_letter x) h in
-    ap (λ v. if v then suc (feeds x) else feeds x) (letter_plain b first.0) ∙ letters_plain x first.1
+    rw (letter_plain b first.0) (letters_plain x first.1)
 
 names_plain : (xs ys : List Name) → AllByRecursion IsName (xs ++ ys) → AllByRecursion IsPlain xs
 names_plain [] ys h = tt
 names_plain (x ∷ xs) ys h = (letters_plain x h.0.0.1, names_plain xs ys h.1)
-
-behind : (xs ys : List Name) → AllByRecursion IsName (xs ++ ys) → AllByRecursion IsName ys
-behind [] ys h = h
-behind (x ∷ xs) ys h = behind xs ys h.1
 
 -- the names of a sort, and values that have the first ones of them
 pub record AreGood {A : Type 0} (ns : List Name) (es : NameMap A) : Type 0 where
@@ -126,9 +107,9 @@ sorted_as : (s : Source) (a : List ℕ) (b : List (List ℕ)) (c : List (List Wo
     IsSorted s
     (record { scalars = zip s.scalars a; rows = zip s.rows b; words = zip s.words c; views = zip s.views d })
 sorted_as s a b c d h =
-    let of_rows = behind s.scalars _ h.names in
-    let of_words = behind s.rows _ of_rows in
-    let of_views = behind s.words _ of_words in
+    let of_rows = all_rest IsName s.scalars _ h.names in
+    let of_words = all_rest IsName s.rows _ of_rows in
+    let of_views = all_rest IsName s.words _ of_words in
     record {
       scalars = good_zip s.scalars a (names_of_scalars s h) (names_plain s.scalars _ h.names);
       rows = good_zip s.rows b (names_of_rows s h) (names_plain s.rows _ of_rows);
@@ -141,43 +122,14 @@ sorted_as s a b c d h =
 pub sorted : (s : Source) (l : Locals) → IsListing s → HasLocals s l → IsSorted s l
 sorted s l rules h = subst (IsSorted s) (sym h.are) (sorted_as s h.scalars h.rows h.words h.views rules)
 
-rows_before : (s : Source) (k : ℕ) (r : List ℕ) (l : Locals) → IsSorted s (with_row (name_at s.rows k) r l) →
-    IsSorted s l
-rows_before s k r l h = record {
-  scalars = h.scalars;
-  rows = good_before s.rows (name_at s.rows k) r l.rows h.rows;
-  words = h.words;
-  views = h.views;
-}
-
 -- before a place was put back
 pub sorted_before : (s : Source) (p : Place) (l : Locals) → IsSorted s (put_local s p l) → IsSorted s l
-sorted_before s Nowhere l h = h
-sorted_before s (WordRegister k x) l h = h
-sorted_before s (BitRegister b i j x) l h = h
-sorted_before s (ViewRegister i v) l h = h
-sorted_before s (Scalar k v) l h = record {
-  scalars = good_before s.scalars (name_at s.scalars k) v l.scalars h.scalars;
-  rows = h.rows;
-  words = h.words;
-  views = h.views;
-}
-sorted_before s (Number k p v) l h =
-    rows_before s k (slice_set (value_at (name_at s.rows k) l.rows []) p v) l h
-sorted_before s (Row k r) l h = rows_before s k r l h
-sorted_before s (LocalWord k p x) l h = record {
-  scalars = h.scalars;
-  rows = h.rows;
-  words =
-      good_before s.words (name_at s.words k) (slice_set (value_at (name_at s.words k) l.words []) p x) l.words h.words;
-  views = h.views;
-}
-sorted_before s (LocalView k v) l h = record {
-  scalars = h.scalars;
-  rows = h.rows;
-  words = h.words;
-  views = good_before s.views (name_at s.views k) v l.views h.views;
-}
+sorted_before s (Scalar k v) l h = search good_before
+sorted_before s (Number k p v) l h = search good_before
+sorted_before s (Row k r) l h = search good_before
+sorted_before s (LocalWord k p x) l h = search good_before
+sorted_before s (LocalView k v) l h = search good_before
+sorted_before s _ l h = h
 
 -- the names of locals have no line feeds
 pub entries_plain : {A : Type 0} (ns : List Name) (es : NameMap A) → AreGood ns es →

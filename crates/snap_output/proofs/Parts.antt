@@ -1,10 +1,10 @@
 -- The parts of a report (`IsPart`): each is made of whole lines, the first of which names its own owner
 -- (`SpeaksFirst`).
 use Rattle.std.proofs.Common.{◌≡◌, ℕ, ◌+◌, ◌-◌, ◌<◌, Bool, true, false, not, ◌&&◌, List, [], ◌∷◌, ◌++◌, length, codes}
-use Rattle.std.proofs.Common.{decimal, nat_eq, if◌then◌else◌, refl, sym, ap, ◌∙◌, subst, append_assoc, append-nil}
-use Rattle.std.proofs.Common.{slice_index_or, slice_set, arith}
+use Rattle.std.proofs.Common.{decimal, nat_eq, refl, sym, ap, ◌∙◌, subst, append_assoc, append-nil, length-set, arith}
+use Rattle.std.proofs.lemmas.Option.{slice_get-get_or}
 use Rattle.std.specs.Prelude.{◌==◌}
-use Rattle.std.proofs.lemmas.List.{get_or-set_same, set-get_or}
+use Rattle.std.proofs.lemmas.List.{set-get_or}
 use Rattle.snap_words.specs.Word.{Word}
 use Rattle.snap_words.specs.declared.kind.KindTag.{KindTag}
 use Rattle.snap_semantics.specs.declared.event.Event.{Event}
@@ -13,11 +13,10 @@ use Rattle.snap_semantics.specs.Report.{bank_lines, bit_line, event_line, event_
 use Rattle.snap_semantics.specs.Report.{list_local, locals_lines, locals_text, number_local, numbers_text}
 use Rattle.snap_semantics.specs.Report.{process_lines, processes_lines, register_lines, row_lines, status_text}
 use Rattle.snap_semantics.specs.Report.{values_line, view_line, view_lines, word_line}
-use Rattle.snap_semantics.specs.Report.{word_lines, word_local, word_text, words_local}
+use Rattle.snap_semantics.specs.Report.{word_lines, word_text, words_local}
 use Rattle.snap_semantics.specs.Source.{Name}
 use Rattle.snap_semantics.specs.State.{Locals, Memory, NameMap, Process, State, nobody, process_at, values}
 use Rattle.snap_semantics.specs.Token.{lines_of, onto_line}
-use Rattle.snap_text.specs.Changes.{text_between}
 use Rattle.snap_text.specs.Owned.{owned_text}
 use Rattle.snap_output.specs.Between.{between, owned, process_text, state_text}
 use Rattle.snap_output.proofs.Wholes.{IsWhole, before, feeds, feeds_both, joined, new_line, no_text}
@@ -25,9 +24,9 @@ use Rattle.snap_output.proofs.Changes as changes
 use Rattle.snap_output.proofs.Feeds.{values_feeds}
 use Rattle.snap_output.proofs.Owned.{SpeaksFirst, behind_lines, lines_plain, owned_feeds, owned_whole}
 use Rattle.snap_output.proofs.Kept.{IsMove}
-use Rattle.snap_output.proofs.Splits.{AreJoined, IsSplit, bank_order, each_is, entries_order, events_order}
-use Rattle.snap_output.proofs.Splits.{places_order, processes_order, row_order, split_at, views_order, words_order}
-use Rattle.snap_output.proofs.Differs.{Differs, differ_feeds}
+use Rattle.snap_output.proofs.Splits.{AreJoined, any, bank_order, each_is, entries_order, events_order}
+use Rattle.snap_output.proofs.Splits.{places_order, processes_order, row_order, views_order, words_order}
+use Rattle.snap_output.proofs.Differs.{Differs, at, differ_as, differ_feeds, itself, one_differs}
 
 pub record IsPart (t : List ℕ) : Type 0 where
   pub whole : IsWhole t
@@ -44,13 +43,7 @@ speaks_byte b (line ∷ lines) e = e
 
 pub speaks_text : (t : List ℕ) → begins t ≡ true → SpeaksFirst (lines_of t)
 speaks_text [] e = tt
-speaks_text (b ∷ t) e = by_case (nat_eq b 10) (b == 32) refl e
-  where
-    by_case : (v w : Bool) → (b == 32) ≡ w → (not v && not w) ≡ true →
-        SpeaksFirst (if v then [] ∷ lines_of t else onto_line b (lines_of t))
-    by_case true w f e = absurd cc
-    by_case false true f e = absurd cc
-    by_case false false f e = speaks_byte b (lines_of t) f
+speaks_text (b ∷ t) e = grind (arith, speaks_byte b (lines_of t))
 
 speaks_more : (xs ys : List (List ℕ)) → SpeaksFirst xs → SpeaksFirst ys → SpeaksFirst (xs ++ ys)
 speaks_more [] ys h k = k
@@ -114,21 +107,17 @@ sort_whole : {A : Type 0} (f : Name → A → List ℕ) (es : NameMap A) →
     ((x : Name) (v : A) → IsWhole (f x v)) → IsWhole (locals_lines f es)
 sort_whole f es h = each_is whole_joins (entries_order f) (λ n e. h e.0 e.1) 0 es
 
-place_whole : (g : KindTag) (x : Name) (p : ℕ) (v : Word) → IsWhole (word_local g x p v)
-place_whole g x p v = ended (codes "  " ++ x ++ codes " " ++ decimal p ++ codes " = " ++ word_text g v)
-
-number_whole : (x : Name) (v : ℕ) → IsWhole (number_local x v)
-number_whole x v = ended (codes "  " ++ x ++ codes " = " ++ decimal v)
-
 list_whole : (x : Name) (vs : List ℕ) → IsWhole (list_local x vs)
 list_whole x vs = ended (codes "  " ++ x ++ codes " =" ++ numbers_text vs)
 
 locals_whole : (g : KindTag) (l : Locals) → IsWhole (locals_text g l)
 locals_whole g l =
-    joined (joined
-    (joined (sort_whole number_local l.scalars number_whole) (sort_whole list_local l.rows list_whole))
+    joined (joined (joined
+    (sort_whole number_local l.scalars (λ x v. ended (codes "  " ++ x ++ codes " = " ++ decimal v)))
+    (sort_whole list_local l.rows list_whole))
     (sort_whole (λ x vs. words_local g x 1 vs) l.words
-    (λ x vs. each_is whole_joins (places_order g x) (place_whole g x) 1 vs)))
+    (λ x vs. each_is whole_joins (places_order g x)
+    (λ p v. ended (codes "  " ++ x ++ codes " " ++ decimal p ++ codes " = " ++ word_text g v)) 1 vs)))
     (sort_whole list_local l.views list_whole)
 
 pub head_part : (i : ℕ) (s : Status) → IsPart (head_line i s)
@@ -154,8 +143,7 @@ events_part es = each_is parts_join events_order (λ n e. event_part e) 0 es
 events_more : (es new : List Event) → event_lines (es ++ new) ≡ event_lines es ++ event_lines new
 events_more [] new = refl
 events_more (e ∷ es) new =
-    ap (λ t. event_line e ++ t) (events_more es new)
-    ∙ sym (append_assoc (event_line e) (event_lines es) (event_lines new))
+    rw (events_more es new) (sym (append_assoc (event_line e) (event_lines es) (event_lines new)))
 
 -- the values and the registers
 abbrev pub shared : KindTag → State → List ℕ
@@ -187,40 +175,41 @@ owned_count t h = (owned_whole [] (lines_of t)).count ∙ owned_feeds [] (lines_
 pub between_apart : {a a' b b' : List ℕ} → IsWhole a → IsWhole a' → IsPart b → IsPart b' → feeds a ≡ feeds a' →
     between (a ++ b) (a' ++ b') ≡ between a a' ++ between b b'
 between_apart {a} {a'} {b} {b'} h h' k k' e =
-    ap (λ xs. text_between xs (lines_of (owned (a' ++ b')))) (owned_lines a b h k)
-    ∙ ap (text_between (lines_of (owned a) ++ lines_of (owned b))) (owned_lines a' b' h' k')
-    ∙ changes.apart (lines_of (owned a)) (lines_of (owned a')) (lines_of (owned b)) (lines_of (owned b'))
-    (owned_count a h ∙ e ∙ sym (owned_count a' h'))
+    rw (owned_lines a b h k, owned_lines a' b' h' k')
+    (changes.apart (lines_of (owned a)) (lines_of (owned a')) (lines_of (owned b)) (lines_of (owned b'))
+    (owned_count a h ∙ e ∙ sym (owned_count a' h')))
 
 pub between_same : (a : List ℕ) → between a a ≡ []
 between_same a = changes.same (lines_of (owned a))
 
 pub between_came : (a b : List ℕ) → IsWhole a → IsPart b → between a (a ++ b) ≡ between [] b
-between_came a b h k =
-    ap (text_between (lines_of (owned a))) (owned_lines a b h k)
-    ∙ changes.came (lines_of (owned a)) (lines_of (owned b))
+between_came a b h k = rw (owned_lines a b h k) (changes.came (lines_of (owned a)) (lines_of (owned b)))
 
 -- what changed of a text around a part that differs
 pub around : {a a' m m' : List ℕ} → Differs IsPart a a' m m' → between a a' ≡ between m m'
-around {a' = a'} {m = m} {m' = m'} h =
+around {m = m} {m' = m'} h =
     let l = h.alike in
-    ap (λ t. between t a') h.old_is ∙ ap (between (h.front ++ (m ++ h.rest))) h.new_is
-    ∙ between_apart h.front_is.whole h.front_is.whole (part_joined l.mine h.rest_is) (part_joined l.mine' h.rest_is)
-    refl
-    ∙ ap (λ t. t ++ between (m ++ h.rest) (m' ++ h.rest)) (between_same h.front)
-    ∙ between_apart l.mine.whole l.mine'.whole h.rest_is h.rest_is l.same
-    ∙ ap (λ t. between m m' ++ t) (between_same h.rest) ∙ append-nil (between m m')
+    rw (
+      h.old_is,
+      h.new_is,
+      between_apart h.front_is.whole h.front_is.whole (part_joined l.mine h.rest_is)
+          (part_joined l.mine' h.rest_is) refl,
+      between_apart l.mine.whole l.mine'.whole h.rest_is h.rest_is l.same,
+    )
+    (simp (between_same, append-nil))
 
 -- what changed of three parts, where texts came behind the last one
 pub in_three : {a a' b b' e n : List ℕ} → IsWhole a → IsWhole a' → IsPart b → IsPart b' → IsPart e → IsPart n →
     feeds a ≡ feeds a' → feeds b ≡ feeds b' →
     between ((a ++ b) ++ e) ((a' ++ b') ++ (e ++ n)) ≡ between a a' ++ (between b b' ++ between [] n)
 in_three {a} {a'} {b} {b'} {e} {n} ha ha' hb hb' he hn sa sb =
-    ap (λ t. between t ((a' ++ b') ++ (e ++ n))) (append_assoc a b e)
-    ∙ ap (between (a ++ (b ++ e))) (append_assoc a' b' (e ++ n))
-    ∙ between_apart ha ha' (part_joined hb he) (part_joined hb' (part_joined he hn)) sa
-    ∙ ap (λ t. between a a' ++ t) (between_apart hb.whole hb'.whole he (part_joined he hn) sb
-    ∙ ap (λ t. between b b' ++ t) (between_came e n he.whole hn))
+    rw (
+      append_assoc a b e,
+      append_assoc a' b' (e ++ n),
+      between_apart ha ha' (part_joined hb he) (part_joined hb' (part_joined he hn)) sa,
+      between_apart hb.whole hb'.whole he (part_joined he hn) sb,
+      between_came e n he.whole hn,
+    ) refl
 
 -- A move of one process changes its own lines and those of the values and the registers, and
 -- events come behind the others.
@@ -228,49 +217,29 @@ pub narrowed : (g : KindTag) (i : ℕ) (S S' : State) (es new : List Event) → 
     IsMove g i S S' → between (state_text g S es) (state_text g S' (es ++ new))
     ≡ between (process_text g i S []) (process_text g i S' new)
 narrowed g i S S' es new one there h =
-    ap (λ t. between (state_text g S es) ((shared g S' ++ processes_lines g 1 S'.processes) ++ t)) (events_more es new)
-    ∙ in_three (shared_whole g S) (shared_whole g S') (processes_part g S) (processes_part g S') (events_part es)
-    (events_part new) (shared_feeds g i S S' h) processes_feeds
-    ∙ ap (λ t. between (shared g S) (shared g S') ++ (t ++ between [] (event_lines new))) (around moved)
-    ∙ sym (in_three (shared_whole g S) (shared_whole g S') (process_part g i (process_at S i))
-    (process_part g i (process_at S' i)) no_part (events_part new) (shared_feeds g i S S' h) moved.alike.same)
+    rw (
+      events_more,
+      in_three (shared_whole g S) (shared_whole g S') (processes_part g S) (processes_part g S')
+          (events_part es) (events_part new) (shared_feeds g i S S' h) (differ_feeds moved),
+      in_three (shared_whole g S) (shared_whole g S') (process_part g i (process_at S i))
+          (process_part g i (process_at S' i)) no_part (events_part new) (shared_feeds g i S S' h) moved.alike.same,
+      around moved,
+    ) refl
   where
-    sp : IsSplit IsPart (process_lines g) (processes_lines g) 1 (i - 1) S.processes
-    sp = split_at parts_join (processes_order g) (process_part g) 1 S.processes (i - 1)
-
-    number : 1 + (i - 1) ≡ i
+    number : i ≡ 1 + (i - 1)
     number = omega (arith, one)
 
-    own : process_at S' i ≡ h.process
-    own =
-        ap (λ ps. slice_index_or ps (i - 1) nobody) h.processes
-        ∙ get_or-set_same S.processes (i - 1) h.process nobody there
-
-    with_process : (p : Process) →
-        processes_lines g 1 (slice_set S.processes (i - 1) p) ≡ sp.front ++ (process_lines g i p ++ sp.rest)
-    with_process p =
-        sp.text p
-        ∙ ap (λ b. sp.front ++ ((if b then process_lines g (1 + (i - 1)) p else []) ++ sp.rest)) (sp.inside there)
-        ∙ ap (λ n. sp.front ++ (process_lines g n p ++ sp.rest)) number
+    there' : i - 1 < length S'.processes
+    there' = rw (h.processes, length-set) there
 
     moved : Differs IsPart (processes_lines g 1 S.processes) (processes_lines g 1 S'.processes)
         (process_lines g i (process_at S i)) (process_lines g i (process_at S' i))
-    moved = record {
-      front = sp.front;
-      rest = sp.rest;
-      front_is = sp.front_is;
-      rest_is = sp.rest_is;
-      old_is =
-          ap (processes_lines g 1) (sym (set-get_or S.processes (i - 1) nobody)) ∙ with_process (process_at S i);
-      new_is =
-          ap (processes_lines g 1) h.processes ∙ with_process h.process
-          ∙ ap (λ p. sp.front ++ (process_lines g i p ++ sp.rest)) (sym own);
-      alike = record {
-        mine = process_part g i (process_at S i);
-        mine' = process_part g i (process_at S' i);
-        same = sym (ap (λ p. feeds (process_lines g i p)) own ∙ h.lines);
-      };
-    }
-
-    processes_feeds : feeds (processes_lines g 1 S.processes) ≡ feeds (processes_lines g 1 S'.processes)
-    processes_feeds = differ_feeds moved
+    moved =
+        differ_as (one_differs parts_join (processes_order g) (λ p. Unit {0}) (λ n p good. process_part g n p)
+        (process_lines g i) 1 (i - 1) S.processes (process_at S i) h.process (any S.processes)
+        (sym (set-get_or S.processes (i - 1) nobody)) h.processes
+        (subst (λ n. Differs IsPart (process_lines g n (process_at S i)) (process_lines g n h.process)
+        (process_lines g i (process_at S i)) (process_lines g i h.process)) number
+        (itself parts_join (process_part g i (process_at S i)) (process_part g i h.process) (sym h.lines))))
+        (ap (at (process_lines g i)) (slice_get-get_or S.processes (i - 1) nobody there))
+        (ap (at (process_lines g i)) (slice_get-get_or S'.processes (i - 1) nobody there'))

@@ -1,8 +1,7 @@
 -- The lines of the registers, where a place was put back (`put_register`): those of its register differ, and the
 -- others stay.
-use Rattle.std.proofs.Common.{◌≡◌, ℕ, ◌+◌, ◌-◌, true, ◌&&◌, List, [], Option, Some, None, codes, nat_le, nat_lt}
-use Rattle.std.proofs.Common.{if◌then◌else◌, option_map, slice_get, slice_index_or, slice_set, refl, sym, ap, ◌∙◌}
-use Rattle.std.proofs.Common.{subst, arith}
+use Rattle.std.proofs.Common.{◌≡◌, ℕ, ◌+◌, ◌-◌, true, ◌&&◌, List, [], Option, Some, None, codes, nat_lt, if◌then◌else◌}
+use Rattle.std.proofs.Common.{option_map, slice_get, slice_index_or, slice_set, refl, sym, ap, ◌∙◌, subst, arith}
 use Rattle.std.proofs.lemmas.Bool.{and_parts}
 use Rattle.std.proofs.lemmas.Bool.Decides.{Decides-ltb}
 use Rattle.std.proofs.lemmas.List.{set-get_or}
@@ -20,8 +19,7 @@ use Rattle.snap_semantics.specs.Source.{Source}
 use Rattle.snap_semantics.specs.State.{Memory}
 use Rattle.snap_semantics.specs.Table.{bank_of, with_bit_at}
 use Rattle.snap_machine.specs.WritePlace.{write_place_of}
-use Rattle.snap_machine.specs.Undo.{FitsPlace, Place, Nowhere, WordRegister, BitRegister, ViewRegister, Scalar, Number}
-use Rattle.snap_machine.specs.Undo.{Row, LocalWord, LocalView, put_register}
+use Rattle.snap_machine.specs.Undo.{FitsPlace, Place, WordRegister, BitRegister, ViewRegister, put_register}
 use Rattle.snap_machine.specs.declared.undo.WritePlace.{WritePlace}
 use Rattle.snap_machine.specs.declared.undo.WritePlace.TheVariants as written
 use Rattle.snap_report.specs.ReportLines.{bank_text, register_line}
@@ -29,7 +27,7 @@ use Rattle.snap_output.proofs.Wholes.{feeds}
 use Rattle.snap_output.proofs.Feeds.{bit_feeds, view_feeds, word_feeds}
 use Rattle.snap_output.proofs.Parts.{IsPart, bank_part, begins, bit_part, parts_join, registers_part, row_part}
 use Rattle.snap_output.proofs.Parts.{view_part, views_part, word_part, words_part}
-use Rattle.snap_output.proofs.Splits.{IsInOrder, bank_order, row_order, split_at, views_order, words_order}
+use Rattle.snap_output.proofs.Splits.{IsInOrder, any, bank_order, row_order, views_order, words_order}
 use Rattle.snap_output.proofs.Differs.{Differs, at, differ_as, in_first, in_fourth, in_second, in_third}
 use Rattle.snap_output.proofs.Differs.{itself, one_differs, stays}
 
@@ -40,7 +38,7 @@ written_register g m _ = []
 
 -- a place that is counted from 1
 one_at_least : (count k : ℕ) → is_place count k ≡ true → nat_lt 0 k ≡ true
-one_at_least count k e = (and_parts (nat_lt 0 k) (nat_le k count) e).0
+one_at_least count k e = grind arith
 
 back_up : (k : ℕ) → nat_lt 0 k ≡ true → 1 + (k - 1) ≡ k
 back_up k e = let h = (Decides-ltb 0 k).0 e in omega (arith, h)
@@ -57,7 +55,7 @@ element_differs : {A : Type 0} {f : ℕ → A → List ℕ} {F : ℕ → List A 
     (at h (nth k (slice_set xs (k - 1) x))) (at h (nth k xs))
 element_differs {f = f} order each h k one xs x d differs =
     let y = slice_index_or xs (k - 1) d in
-    differ_as (one_differs parts_join h 1 (k - 1) xs x y (split_at parts_join order each 1 xs (k - 1)) refl
+    differ_as (one_differs parts_join order (λ z. Unit {0}) (λ n z good. each n z) h 1 (k - 1) xs x y (any xs) refl
     (sym (set-get_or xs (k - 1) d))
     (subst (λ n. Differs IsPart (f n x) (f n y) (h x) (h y)) (sym (back_up k one)) differs))
     (ap (at h) (sym (read k (slice_set xs (k - 1) x) one))) (ap (at h) (sym (read k xs one)))
@@ -118,7 +116,6 @@ module _ (g : KindTag) where
 pub register_differs : (g : KindTag) (s : Source) (n : Counts) (m : Memory) (u : Place) → FitsPlace s n u →
     Differs IsPart (register_lines g (put_register u m)) (register_lines g m)
     (written_register g (put_register u m) (write_place_of u)) (written_register g m (write_place_of u))
-register_differs g s n m Nowhere h = stays parts_join (registers_part g m)
 register_differs g s n m (WordRegister k x) h =
     in_first parts_join (bank_part (codes "q") refl m.q) (bank_part (codes "p") refl m.p) (views_part m.views)
     (lone_differs g (λ w. WordContents w) bank.R (words_order g) (word_part g) (word_feeds g) k (one_at_least n.w k h.0)
@@ -137,8 +134,4 @@ register_differs g s n m (ViewRegister i v) h =
     in_fourth parts_join (words_part g m.words) (bank_part (codes "q") refl m.q) (bank_part (codes "p") refl m.p)
     (lone_differs g (λ v. ViewContents v) bank.V views_order view_part view_feeds i
     (one_at_least n.n i (and_parts (has_bank s.kind bank.V) (is_place n.n i) h.0).1) m.views v [])
-register_differs g s n m (Scalar k v) h = stays parts_join (registers_part g m)
-register_differs g s n m (Number k p v) h = stays parts_join (registers_part g m)
-register_differs g s n m (Row k r) h = stays parts_join (registers_part g m)
-register_differs g s n m (LocalWord k p x) h = stays parts_join (registers_part g m)
-register_differs g s n m (LocalView k v) h = stays parts_join (registers_part g m)
+register_differs g s n m _ h = stays parts_join (registers_part g m)

@@ -1,6 +1,6 @@
 -- `prints_the_run`, `writes_the_run` and `snapshots`: what the program writes for an input is of the run that the
 -- input names; of U, B or M it is a snapshot's.
-use Rattle.std.proofs.Common.{◌≡◌, ℕ, true, List, [], ◌∷◌, Ok, length, nat_lt, ◌≤◌, refl, subst, sym, ◌∙◌, arith}
+use Rattle.std.proofs.Common.{◌≡◌, ℕ, true, false, List, [], ◌∷◌, Ok, length, nat_eq, nat_lt, ◌≤◌, refl, ap, ◌∙◌, arith}
 use Rattle.std.proofs.lemmas.Bool.{eq-eqb, le-ltb}
 use Rattle.std.specs.Prelude.{Result, codes, map}
 use Rattle.snap_words.specs.Kind.{fits}
@@ -28,7 +28,7 @@ use Rattle.snap_debug_commands.specs.Commands.{commands_of}
 use Rattle.snap_debug.specs.Session.{performance}
 use Rattle.snap_debug_commands.specs.declared.command.Command.{Command}
 use Rattle.snap_debug_commands.specs.declared.command.Command.TheVariants as command
-use Rattle.snap_input.proofs.Answered.{both, not_refused, passed, same_answer, within}
+use Rattle.snap_input.proofs.Answered.{both, not_refused, passed, within}
 use Rattle.snap_output.specs.Headline.{AsksFor, GivesItselfBack, ListsBackAsSource, PrintsTheRun, RunsWhatIsAsked}
 use Rattle.snap_output.specs.Headline.{SnapshotListingsAreSnapshots, WritesTheRun}
 use Rattle.snap_output.specs.Stages.{AreSchedulesFor, IsScheduleFor, texts_in}
@@ -63,24 +63,18 @@ schedule_from : (l : Source) (y : List ℕ) (s : Schedule) → schedule_for l y 
 unfolding schedule_for
 schedule_from l y s e =
     let read = both (refused_as refusal.Schedule (schedule_of y)) (fitting l) s e in
-    let fit = passed (fits l.kind read.0.shape) (refusal.Words BadShape) read.0 s read.2 in (
-      subst (λ (x : Schedule). schedule_of y ≡ Ok x) fit.1 (not_refused refusal.Schedule (schedule_of y) read.0 read.1),
-      subst (λ (x : Schedule). fits l.kind x.shape ≡ true) fit.1 fit.0,
-    )
+    let fit = passed (fits l.kind read.0.shape) (refusal.Words BadShape) read.0 s read.2 in
+    rw (← fit.1) (not_refused refusal.Schedule (schedule_of y) read.0 read.1, fit.0)
 
 -- the schedules of texts, one for one
 schedules_from : (l : Source) (texts : List (List ℕ)) (ss : List Schedule) →
     schedules_for l texts ≡ Ok ss → AreSchedulesFor l texts ss
-schedules_from l [] ss e =
-    let none : List Schedule = [] in
-    subst (λ xs. AreSchedulesFor l [] xs) (sym (same_answer (schedules_for l []) none ss refl e)) tt
+schedules_from l [] ss e = let none : ss ≡ [] = cc in rw none tt
 schedules_from l (text ∷ texts) ss e =
     let first = both (schedule_for l text) _ ss e in
     let rest = both (schedules_for l texts) _ ss first.2 in
-    let all : List Schedule = first.0 ∷ rest.0 in
-    let answer : Result (List Schedule) Refusal = Ok all in
-    subst (λ xs. AreSchedulesFor l (text ∷ texts) xs) (sym (same_answer answer all ss refl rest.2))
-    (schedule_from l text first.0 first.1, schedules_from l texts rest.0 rest.1)
+    let all : ss ≡ first.0 ∷ rest.0 = cc rest.2 in
+    rw all (schedule_from l text first.0 first.1, schedules_from l texts rest.0 rest.1)
 
 -- what is performed
 performed : (l : Source) (y z text : List ℕ) → perform_listing l y z ≡ Ok text →
@@ -94,37 +88,26 @@ performed l y z text e =
       asked.0,
       schedule_from l y read.0 read.1,
       not_refused refusal.Commands (commands_of z) asked.0 asked.1,
-      same_answer (Ok (performance (run_over l read.0) asked.0))
-          (performance (run_over l read.0) asked.0) text refl asked.2,
+      cc asked.2,
     )
 
 -- by the one command `run`
 only_run : (l : Source) (s : Schedule) (cs : List Command) (text : List ℕ) → commands_of (codes "run\n") ≡ Ok cs →
     text ≡ performance (run_over l s) cs → text ≡ performance (run_over l s) (command.Run ∷ [])
 only_run l s cs text read e =
-    subst (λ (asked : List Command). text ≡ performance (run_over l s) asked)
-    (same_answer (commands_of (codes "run\n")) (command.Run ∷ []) cs is_run read) e
+    let one : cs ≡ command.Run ∷ [] = cc (read, is_run) in e ∙ ap (performance (run_over l s)) one
 
 audited : (l : Source) (y text : List ℕ) → audit_listing l y ≡ Ok text →
     (s : Schedule) × IsScheduleFor l y s × (text ≡ audit_text (run_over l s))
 unfolding audit_listing
 audited l y text e =
-    let read = both (schedule_for l y) _ text e in (
-      read.0,
-      schedule_from l y read.0 read.1,
-      same_answer (Ok (audit_text (run_over l read.0))) (audit_text (run_over l read.0)) text refl read.2,
-    )
+    let read = both (schedule_for l y) _ text e in (read.0, schedule_from l y read.0 read.1, cc read.2)
 
 reported : (l : Source) (texts : List (List ℕ)) (text : List ℕ) → batch_text l texts ≡ Ok text →
     (ss : List Schedule) × AreSchedulesFor l texts ss × (text ≡ reports_text 1 (map (end_report l) ss))
 unfolding batch_text
 reported l texts text e =
-    let read = both (schedules_for l texts) _ text e in (
-      read.0,
-      schedules_from l texts read.0 read.1,
-      same_answer (Ok (reports_text 1 (map (end_report l) read.0)))
-          (reports_text 1 (map (end_report l) read.0)) text refl read.2,
-    )
+    let read = both (schedules_for l texts) _ text e in (read.0, schedules_from l texts read.0 read.1, cc read.2)
 
 -- the output is that of the parts
 of_parts : (t : Task) (input text : List ℕ) → output_of [] t input ≡ Ok text → of_task [] t input ≡ Ok text
@@ -170,39 +153,19 @@ writes_the_run s input text = record {
 }
 
 -- what is asked for is run
-module _ (subject : Subject) (input : List ℕ) (l : Source) (s : Schedule) (short : length input ≤ max_input)
-    (asks : AsksFor subject input l s) where
-  -- a task on so many texts gives what it gives of the listing and these texts
-  given : (count : ℕ) (f : Source → List (List ℕ) → Result (List ℕ) Refusal) → length (texts_in subject input) ≡ count →
-      parted subject count (parts_of input) f ≡ f l (texts_in subject input)
-  unfolding parted
-  given count f counted = rw (eq-eqb (length (texts_in subject input)) count counted, asks.listing) refl
+pub runs_what_is_asked : (subject : Subject) (input : List ℕ) (l : Source) (s : Schedule) →
+    length input ≤ max_input → AsksFor subject input l s → RunsWhatIsAsked subject input l s
+unfolding output_of parted schedule_for perform_listing audit_listing
+runs_what_is_asked subject input l s short asks = record {
+  runs = λ one. rw (enough, has 1 one, asks.listing, asks.schedule.0, asks.schedule.1, is_run) refl;
+  debugs = λ cs two are. rw (enough, has 2 two, asks.listing, asks.schedule.0, asks.schedule.1, are) refl;
+  audits = λ one. rw (enough, has 1 one, asks.listing, asks.schedule.0, asks.schedule.1) refl;
+} where
+  enough : nat_lt max_input (length input) ≡ false
+  enough = le-ltb max_input (length input) short
 
-  read : schedule_for l (part 0 (texts_in subject input)) ≡ Ok s
-  unfolding schedule_for
-  read = rw (asks.schedule.0, asks.schedule.1) refl
-
-  performs : (z : List ℕ) (cs : List Command) → commands_of z ≡ Ok cs →
-      perform_listing l (part 0 (texts_in subject input)) z ≡ Ok (performance (run_over l s) cs)
-  unfolding perform_listing
-  performs z cs are = rw (read, are) refl
-
-  audits : audit_listing l (part 0 (texts_in subject input)) ≡ Ok (audit_text (run_over l s))
-  unfolding audit_listing
-  audits = rw read refl
-
-  whole : (t : Task) → output_of [] t input ≡ of_task [] t input
-  unfolding output_of
-  whole t = rw (le-ltb max_input (length input) short) refl
-
-  pub runs_what_is_asked : RunsWhatIsAsked subject input l s
-  runs_what_is_asked = record {
-    runs = λ one. whole (task.Run subject) ∙ given 1 run_text one ∙ performs (codes "run\n") (command.Run ∷ []) is_run;
-    debugs =
-        λ cs two are.
-        whole (task.Debug subject) ∙ given 2 debug_text two ∙ performs (part 1 (texts_in subject input)) cs are;
-    audits = λ one. whole (task.Audit subject) ∙ given 1 audit_of_first_text one ∙ audits;
-  }
+  has : (count : ℕ) → length (texts_in subject input) ≡ count → nat_eq (length (texts_in subject input)) count ≡ true
+  has count counted = eq-eqb (length (texts_in subject input)) count counted
 
 -- a schedule has fewer items than there are sequence numbers
 suffices : (g : KindTag) (items : List Item) → length items ≤ 1000000 → NumbersSuffice g items

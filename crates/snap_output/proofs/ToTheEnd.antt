@@ -1,7 +1,6 @@
 -- Running a schedule to its end without a session writes what the one debugger command `run` writes, with no marks
 -- set.
-use Rattle.std.proofs.Common.{◌≡◌, ℕ, zero, suc, ◌+◌, ◌-◌, List, [], ◌∷◌, ◌++◌, Result, Ok}
-use Rattle.std.proofs.Common.{Err, length, refl, ◌∙◌, ap, append-nil, arith}
+use Rattle.std.proofs.Common.{◌≡◌, ℕ, ◌+◌, ◌-◌, List, [], ◌∷◌, ◌++◌, Result, Ok, Err, length, refl, ◌∙◌, ap, append-nil, arith}
 use Rattle.std.specs.Prelude.{codes}
 use Rattle.snap_semantics.specs.Answers.{◌>>=◌}
 use Rattle.snap_semantics.specs.Report.{position_line}
@@ -13,7 +12,8 @@ use Rattle.snap_report.specs.RunReport.{report_at}
 use Rattle.snap_batch.specs.End.{end_report}
 use Rattle.snap_debug_commands.specs.CommandForms as forms
 use Rattle.snap_debug_commands.specs.Commands.{commands_of}
-use Rattle.snap_debug.specs.Marks.{no_marks, next_stop}
+use Rattle.snap_debug.specs.Marks.{no_marks}
+use Rattle.snap_debug.proofs.Walks.{no_next}
 use Rattle.snap_debug.specs.Session.{performance}
 use Rattle.snap_debug_commands.specs.declared.command.Command.TheVariants as command
 use Rattle.snap_input.specs.Schedules.{schedule_for}
@@ -25,19 +25,6 @@ unfolding forms.keyword_form forms.number_form forms.numbers_form forms.place_fo
     forms.breakpoint_form forms.register_form forms.moving_form forms.marking_form forms.showing_form forms.command_form
 is_run = refl
 
--- without marks a run goes on as far as it may
-no_stop : (r : Run) (t more : ℕ) → next_stop r no_marks t more ≡ t + more
-no_stop r t zero = omega arith
-no_stop r t (suc more) =
-    let e : suc t + more ≡ t + suc more = omega arith in
-    no_stop r (suc t) more ∙ e
-
--- the one command leads to the end
-at_the_end : (l : Source) (s : Schedule) → next_stop (run_over l s) no_marks 0 (length s.items - 0) ≡ length s.items
-at_the_end l s =
-    let e : 0 + (length s.items - 0) ≡ length s.items = omega arith in
-    no_stop (run_over l s) 0 (length s.items - 0) ∙ e
-
 -- the reply to it with its line, and the report of the end
 abbrev pub ended : Source → Schedule → List ℕ
 ended l s = codes "> run\n" ++ position_line (length s.items) (length s.items) ++ end_report l s
@@ -48,7 +35,8 @@ unfolding end_report
 run_performance l s =
     let n = length s.items in
     let r : Run = run_over l s in
-    ap (λ t. (codes "> run\n" ++ position_line t n ++ []) ++ report_at r t) (at_the_end l s)
+    let all : 0 + (n - 0) ≡ n = omega arith in
+    ap (λ t. (codes "> run\n" ++ position_line t n ++ []) ++ report_at r t) (no_next r no_marks 0 (n - 0) refl ∙ all)
     ∙ ap (λ text. text ++ report_at r n) (append-nil (codes "> run\n" ++ position_line n n))
 
 -- no session is needed for it

@@ -1,6 +1,6 @@
 -- Texts of whole lines (`IsWhole`): each has as many lines as line feeds, and two of them joined have the lines of
 -- both.
-use Rattle.std.proofs.Common.{◌≡◌, ℕ, suc, ◌+◌, ◌<◌, Bool, true, false, List, [], ◌∷◌, ◌++◌, length, nat_eq, codes}
+use Rattle.std.proofs.Common.{◌≡◌, ℕ, suc, ◌+◌, ◌<◌, List, [], ◌∷◌, ◌++◌, length, nat_eq, codes}
 use Rattle.std.proofs.Common.{if◌then◌else◌, refl, sym, ap, ◌∙◌, append_assoc, arith}
 use Rattle.std.proofs.lemmas.List.{length-append}
 use Rattle.snap_semantics.specs.Token.{lines_of, onto_line}
@@ -12,12 +12,7 @@ feeds (b ∷ bs) = if nat_eq b 10 then suc (feeds bs) else feeds bs
 
 pub feeds_append : (a b : List ℕ) → feeds (a ++ b) ≡ feeds a + feeds b
 feeds_append [] b = omega arith
-feeds_append (x ∷ a) b = by_case (nat_eq x 10) (feeds_append a b)
-  where
-    by_case : (v : Bool) → feeds (a ++ b) ≡ feeds a + feeds b →
-        (if v then suc (feeds (a ++ b)) else feeds (a ++ b)) ≡ (if v then suc (feeds a) else feeds a) + feeds b
-    by_case true h = omega (arith, h)
-    by_case false h = h
+feeds_append (x ∷ a) b = grind (arith, feeds_append a b)
 
 pub feeds_both : (a a' b b' : List ℕ) → feeds a ≡ feeds a' → feeds b ≡ feeds b' → feeds (a ++ b) ≡ feeds (a' ++ b')
 feeds_both a a' b b' e f = omega (arith, feeds_append a b, feeds_append a' b', e, f)
@@ -58,25 +53,12 @@ onto_length b (x ∷ xs) h = refl
 
 byte_before : (b : ℕ) (t : List ℕ) → IsSome t → IsSome (b ∷ t)
 byte_before b t h = record {
-  whole = record { apart = λ rest. apart_by (nat_eq b 10) rest; count = count_by (nat_eq b 10) };
-  some = some_by (nat_eq b 10);
-} where
-  many : 0 < length (lines_of t)
-  many = let c = h.whole.count in let s = h.some in omega (arith, c, s)
-
-  apart_by : (v : Bool) (rest : List ℕ) → (if v then [] ∷ lines_of (t ++ rest) else onto_line b (lines_of (t ++ rest)))
-      ≡ (if v then [] ∷ lines_of t else onto_line b (lines_of t)) ++ lines_of rest
-  apart_by true rest = ap (λ (ls : List (List ℕ)). [] ∷ ls) (h.whole.apart rest)
-  apart_by false rest = ap (onto_line b) (h.whole.apart rest) ∙ onto_more b (lines_of t) (lines_of rest) many
-
-  count_by : (v : Bool) → length (if v then [] ∷ lines_of t else onto_line b (lines_of t))
-      ≡ (if v then suc (feeds t) else feeds t)
-  count_by true = ap suc h.whole.count
-  count_by false = onto_length b (lines_of t) many ∙ h.whole.count
-
-  some_by : (v : Bool) → 0 < (if v then suc (feeds t) else feeds t)
-  some_by true = omega arith
-  some_by false = h.some
+  whole = record {
+    apart = λ rest. grind (arith, h.whole.apart rest, onto_more b (lines_of t) (lines_of rest));
+    count = grind (arith, onto_length b (lines_of t));
+  };
+  some = grind arith;
+}
 
 -- any text before one that has a line feed
 pub before : (a t : List ℕ) → IsSome t → IsSome (a ++ t)

@@ -1,66 +1,40 @@
 -- `trace` of snap_output (src/run_trace.rt): the proof of what its contract says.
-use Rattle.std.proofs.Common.{◌≡◌, ◌+◌, ◌++◌, List, Result, Ok, Err, ap, arith, map, sym, ◌∙◌, ℕ}
+use Rattle.std.proofs.Common.{◌≡◌, List, Result, Ok, Err, ap, arith, map, refl, sym, ◌∙◌, ℕ}
 use Rattle.std.specs.Prelude.{IfOk}
 use Rattle.snap_semantics.specs.Source.{Source}
-use Rattle.snap_semantics.specs.State.{initial}
-use Rattle.snap_runs.specs.Run.{run_over}
 use Rattle.snap_listing.specs.LineTexts.{seen_line, written}
-use Rattle.snap_machine.specs.Configuration.{Configuration}
-use Rattle.snap_output.specs.Step.{done_text}
-use Rattle.snap_output.proofs.Walks.{all_told, begun, next_few, next_fits, one_more}
+use Rattle.snap_output.proofs.Walks.{all_told, begun, next_fits, one_more}
 use Rattle.snap_output.proofs.run_trace.trace.Goals as goal
 
 pub loop-item-init : goal.loop-item-init
 loop-item-init g c =
     let texts_are : map seen_line c.texts.inside.lines.items ≡ map written c.args.program.now.lines =
-    c.texts.view_is ∙ c.in_ok-texts.ensures ∙ ap (λ (s : Source). map written s.lines) c.listing.ensures in (
-      begun (run_over c.args.program.now c.args.schedule.now)
-          (map seen_line c.texts.inside.lines.items) c.in_ok-machine.machine
-          c.in_ok-sheet.sheet.out.text c.iter-left.result texts_are
-          (ap (λ (m : Configuration). m.source) c.in_ok-machine.ensures)
-          (ap (λ (m : Configuration). m.shape) c.in_ok-machine.ensures ∙ c.shape-shape.ensures.shape)
-          (ap (λ (m : Configuration). m.state) c.in_ok-machine.ensures
-          ∙ ap (initial c.args.program.now) c.shape-shape.ensures.shape)
+    c.texts.view_is ∙ c.in_ok-texts.ensures ∙ ap (λ (s : Source). map written s.lines) c.listing.ensures in
+    let machine = c.in_ok-machine.ensures in
+    let shape = c.shape-shape.ensures.shape in (
+      begun texts_are (rw machine refl) (rw (machine, shape) refl) (rw (machine, shape) refl)
           (c.iter-left.ensures ∙ c.items.ensures.items) c.shape-shape.ensures.schedule.few
-          c.shape-shape.ensures.schedule.processes
-          c.in_ok-sheet.ensures.text,
+          c.shape-shape.ensures.schedule.processes c.in_ok-sheet.ensures.text,
       c.in_ok-sheet.ensures.heads,
       tt,
       tt,
     )
 
 pub overflow_add-number : goal.overflow_add-number
-overflow_add-number g c =
-    omega (
-      arith,
-      next_few (run_over c.args.program.now c.args.schedule.now)
-          (map seen_line c.texts.inside.lines.items) c.loop-item.machine
-          c.loop-item.number c.loop-item.sheet.out.text c.loop-item.left c.loop-item.invariant.0,
-    )
+overflow_add-number g c = omega arith
 
 pub push_item-requires-clause-heads : goal.push_item-requires-clause-heads
 push_item-requires-clause-heads g c κs bounds = c.loop-item.invariant.1
 
 pub push_item-requires-clause-process : goal.push_item-requires-clause-process
-push_item-requires-clause-process g c κs bounds =
-    next_fits (run_over c.args.program.now c.args.schedule.now)
-    (map seen_line c.texts.inside.lines.items) c.loop-item.machine
-    c.loop-item.number c.loop-item.sheet.out.text c.loop-item.left c.next.new.self c.in-Some.item
-    c.loop-item.invariant.0 c.in-Some.ensures.steps
+push_item-requires-clause-process g c κs bounds = next_fits c.loop-item.invariant.0 c.in-Some.ensures.steps
 
 pub loop-item-preserved : goal.loop-item-preserved
 loop-item-preserved g c =
-    let seen : c.in_ok-texts.texts ≡ map seen_line c.texts.inside.lines.items = sym c.texts.view_is in (
-      one_more (run_over c.args.program.now c.args.schedule.now)
-          (map seen_line c.texts.inside.lines.items) c.loop-item.machine c.push_item.new.machine
-          c.loop-item.number c.loop-item.sheet.out.text c.push_item.new.sheet.out.text c.loop-item.left c.next.new.self
-          c.in-Some.item c.loop-item.invariant.0
-          c.in-Some.ensures.steps c.in_ok-push_item.ensures.source c.in_ok-push_item.ensures.shape
-          c.in_ok-push_item.ensures.state
-          (c.in_ok-push_item.ensures.text
-          ∙ ap (λ ts. c.loop-item.sheet.out.text ++ done_text ts c.loop-item.machine.source c.loop-item.machine.shape
-          c.loop-item.machine.state (c.loop-item.number + 1) c.in-Some.item) seen),
-      c.in_ok-push_item.ensures.heads,
+    let did = c.in_ok-push_item.ensures in (
+      one_more c.loop-item.invariant.0 c.in-Some.ensures.steps did.source did.shape did.state
+          (rw (sym c.texts.view_is) at did.text),
+      did.heads,
       tt,
       tt,
     )
@@ -74,7 +48,4 @@ other_text (Err f) text x y e is = tt
 pub returns : goal.returns
 returns g c =
     other_text c.into_text.result (λ t. t.items) _ _ c.into_text.ensures
-    (all_told (run_over c.args.program.now c.args.schedule.now)
-    (map seen_line c.texts.inside.lines.items) c.loop-item.machine
-    c.loop-item.number c.loop-item.sheet.out.text c.loop-item.left c.loop-item.invariant.0
-    c.in_default.ensures.steps.0)
+    (all_told c.loop-item.invariant.0 c.in_default.ensures.steps.0)

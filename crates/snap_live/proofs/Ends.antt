@@ -1,7 +1,7 @@
 -- The end of a desk, where one seat has all processes: the record lies in the table's slot, begins with what the seat
 -- has seen and has just its turns.
 use Rattle.std.proofs.Common.{◌≡◌, ℕ, ◌≤◌, List, [], ◌∷◌, length, refl, sym, ap, ◌∙◌}
-use Rattle.std.proofs.Common.{subst, inl, arith, true, false, Option, Some}
+use Rattle.std.proofs.Common.{inl, arith, true, false, Option, Some}
 use mathlib.Core.Option.{Option as Maybe, some, some-injective}
 use mathlib.Core.List.{IsPrefix}
 use lib.ListN.{get_elem?}
@@ -11,7 +11,7 @@ use Rattle.snap_live.specs.declared.seat_state.Setting.{Setting}
 use Rattle.snap_live.specs.declared.seat_state.SeatState.{SeatState}
 use Rattle.snap_live.specs.declared.seat_state.Own.{Own}
 use Rattle.snap_live.specs.declared.seat_state.Stage.{Stage}
-use Rattle.snap_live.specs.declared.seat_state.Stage.TheVariants.{Idle, Waits, Served}
+use Rattle.snap_live.specs.declared.seat_state.Stage.TheVariants.{Idle}
 use Rattle.snap_runs.specs.Run.{Run}
 use Rattle.snap_live.specs.SeatStates.{tickets_of, is_served}
 use Rattle.snap_live.specs.Turns.{run_of, setting_of}
@@ -24,9 +24,7 @@ a_process [] le = absurd (omega arith)
 a_process (o ∷ os) le = (o.process, inl refl)
 
 served_one : (s : Stage) → is_served s ≡ true → tickets_of s ≡ 1
-served_one Idle nay = absurd (cc)
-served_one (Waits t) nay = absurd (cc)
-served_one (Served t g) yes' = refl
+served_one s served = grind arith
 
 -- where a seat between turns has all processes, no seat is served
 nobody_served : (base : Setting) (next serving count id : ℕ) (v : SeatState) (views : List SeatState) →
@@ -58,9 +56,6 @@ settles base id v ws xs y idle every f found =
     ap (λ (l : List (Maybe (Option Run))). get_elem? l 0) g.homes ∙ ap (λ (x : Maybe (Option Run)). some x) home in
     (g.log, some-injective y h (sym found ∙ f.4 0 h there), g.lists.seen id v at, g.lists.owned id v at)
 
-pub same_value : (o : Option Run) (a b : Run) → o ≡ Some a → o ≡ Some b → a ≡ b
-same_value o a b p q = let e : Some a ≡ Some b = sym p ∙ q in cc
-
 -- the record that was taken out of the slot
 pub kept_is : (base : Setting) (id : ℕ) (v : SeatState) (ws : List ℕ)
     (xs : List (Option Run)) (y : Option Run) (kept : Run)
@@ -69,6 +64,5 @@ pub kept_is : (base : Setting) (id : ℕ) (v : SeatState) (ws : List ℕ)
     → (setting_of kept ≡ base) × IsPrefix v.seen kept.items × OwnTurns base kept.items v.owns
 kept_is base id v ws xs y kept idle every f found is =
     let st = settles base id v ws xs y idle every f found in
-    subst (λ (r : Run). (setting_of r ≡ base) × IsPrefix v.seen r.items × OwnTurns base r.items v.owns)
-    (same_value y (run_of base st.0) kept st.1 is)
-    (refl, st.2, st.3)
+    let taken = st.1 in
+    let same : kept ≡ run_of base st.0 = cc in rw same (refl, st.2, st.3)

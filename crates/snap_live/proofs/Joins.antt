@@ -1,13 +1,14 @@
 -- Joining two seats of a desk into one (`both`) keeps the `TableInvariant`: the seat knows the longer history, and
 -- the turns of both.
-use Rattle.std.proofs.Common.{◌≡◌, ◌≢◌, ◌⊎◌, ℕ, ◌+◌, ◌≤◌, List, [], ◌∷◌, ◌++◌, length, set, refl, sym, ap, ◌∙◌, subst}
+use Rattle.std.proofs.Common.{◌≡◌, ◌≢◌, ◌⊎◌, ℕ, ◌+◌, ◌≤◌, List, [], ◌∷◌, ◌++◌, length, set, take, refl, sym, ap, ◌∙◌}
 use Rattle.std.proofs.Common.{⊎_elim, inl, inr, arith, Bool, true, false, Option, Some, None, length-append}
-use Rattle.std.specs.Prelude.{nat_lt, if◌then◌else◌}
-use Rattle.std.proofs.lemmas.Bool.{ltb-true, lt-ltb}
+use Rattle.std.proofs.Math.Seq.{take-append_seam}
+use Rattle.std.proofs.lemmas.List.{take_all}
+use Rattle.std.proofs.lemmas.List.Prefix.{front_fits}
 use mathlib.Core.Option.{Option as Maybe}
 use mathlib.Core.Logic.{dite}
 use mathlib.Core.List.{IsPrefix}
-use native.Mathlib.Decide.{ℕ_discrete, dec_lt}
+use native.Mathlib.Decide.{ℕ_discrete}
 use Rattle.atomic_table.specs.Table.{Joins}
 use Rattle.atomic_table.proofs.Lists.{set_else}
 use Rattle.snap_semantics.specs.declared.process.Item.{Item}
@@ -20,26 +21,14 @@ use Rattle.snap_live.specs.SeatStates.{ticket_of, tickets_of, is_served, longer,
 use Rattle.snap_live.specs.Rule.{total, At, Tickets, Processes, Slot, Lists, TableInvariant, HasProcess, OwnTurns}
 use Rattle.snap_live.proofs.Lists.{each_set, total_set, at_self, one_view}
 use Rattle.snap_live.proofs.Runs.{prefix_same, prefix_shorter}
-use Rattle.snap_live.proofs.Parts.{is_false, table}
+use Rattle.snap_live.proofs.Parts.{table}
 
 -- the longer of two beginnings of one list
-
-pub longer_case : (xs ys : List Item) →
-    ((longer xs ys ≡ ys) × (length xs ≤ length ys)) ⊎ ((longer xs ys ≡ xs) × (length ys ≤ length xs))
-longer_case xs ys = dite (dec_lt (length xs) (length ys))
-    (λ lt. inl (ap (λ (b : Bool). if b then ys else xs) (lt-ltb (length xs) (length ys) lt), omega arith))
-    (λ nlt. inr (
-      ap (λ (b : Bool). if b then ys else xs)
-          (is_false (nat_lt (length xs) (length ys)) (λ t. nlt (ltb-true (length xs) (length ys) t))),
-      omega arith,
-    ))
 
 -- what holds of both lists, each where it is the longer
 longer_by : (P : List Item → Type 0) (xs ys : List Item) → (length xs ≤ length ys → P ys) →
     (length ys ≤ length xs → P xs) → P (longer xs ys)
-longer_by P xs ys right left =
-    ⊎_elim (λ (c : (longer xs ys ≡ ys) × (length xs ≤ length ys)). subst P (sym c.0) (right c.1))
-    (λ (c : (longer xs ys ≡ xs) × (length ys ≤ length xs)). subst P (sym c.0) (left c.1)) (longer_case xs ys)
+longer_by P xs ys right left = grind arith
 
 longer_begins : (xs ys l : List Item) → IsPrefix xs l → IsPrefix ys l → IsPrefix (longer xs ys) l
 longer_begins xs ys l p q = longer_by (λ k. IsPrefix k l) xs ys (λ _. q) (λ _. p)
@@ -51,21 +40,12 @@ longer_right : (xs ys l : List Item) → IsPrefix xs l → IsPrefix ys l → IsP
 longer_right xs ys l p q = longer_by (IsPrefix ys) xs ys (λ _. prefix_same ys) (prefix_shorter ys xs l q p)
 
 pub prefix_length : (xs ys : List Item) → IsPrefix xs ys → length xs ≤ length ys
-prefix_length xs ys p =
-    let e : length xs + length p.0 ≡ length ys = sym (length-append xs p.0) ∙ ap (λ (k : List Item). length k) p.1 in
-    omega arith
+prefix_length xs ys p = front_fits ys xs p.0 (sym p.1)
 
 -- beginnings of each other are one list
 prefix_both : (xs ys : List Item) → IsPrefix xs ys → IsPrefix ys xs → xs ≡ ys
-prefix_both [] [] p q = refl
-prefix_both [] (y ∷ ys) p q = let e = q.1 in absurd (cc)
-prefix_both (x ∷ xs) [] p q = let e = p.1 in absurd (cc)
-prefix_both (x ∷ xs) (y ∷ ys) p q =
-    let e = p.1 in let f = q.1 in
-    let tail : xs ++ p.0 ≡ ys = cc in
-    let tail' : ys ++ q.0 ≡ xs = cc in
-    let same : x ≡ y = cc in
-    let rest = prefix_both xs ys (p.0, tail) (q.0, tail') in λ k. same k ∷ rest k
+prefix_both xs ys p q =
+    sym (take-append_seam xs p.0) ∙ ap (take (length xs)) p.1 ∙ take_all (length xs) ys (prefix_length ys xs q)
 
 -- a list of views in which one takes in another
 
@@ -103,12 +83,11 @@ module _ (views : List SeatState) (id other : ℕ) (b z : SeatState) (apart : ot
 
 has_append : (p : ℕ) (xs ys : List Own) → HasProcess p (xs ++ ys) → HasProcess p xs ⊎ HasProcess p ys
 has_append p [] ys h = inr h
-has_append p (x ∷ xs) ys h =
-    ⊎_elim
-    (λ (e : p ≡ x.process). inl (inl e))
-    (λ (m : HasProcess p (xs ++ ys)).
-    ⊎_elim (λ (a : HasProcess p xs). inl (inr a)) (λ (a : HasProcess p ys). inr a) (has_append p xs ys m))
-    h
+has_append p (x ∷ xs) ys (inl same) = inl (inl same)
+has_append p (x ∷ xs) ys (inr more) = elim (has_append p xs ys more) [
+  | inl left ↦ inl (inr left)
+  | inr right ↦ inr right
+]
 
 own_append : (base : Setting) (log : List Item) (xs ys : List Own) → OwnTurns base log xs →
     OwnTurns base log ys → OwnTurns base log (xs ++ ys)
@@ -122,6 +101,11 @@ module _ (views : List SeatState) (id other : ℕ) (v w : SeatState) (apart : ot
 
   w_at : At views other w
   w_at = sym (set_else views id other (both v w) apart) ∙ at'
+
+  -- what holds of each view still does where the joined seat and the spent one have it
+  each_still : {P : ℕ → SeatState → Type 0} → ((j : ℕ) (u : SeatState) → At views j u → P j u) → P id (both v w) →
+      P other nobody → (j : ℕ) (u : SeatState) → At result j u → P j u
+  each_still old = each_join views id other (both v w) nobody apart (λ j u _ _ atj. old j u atj)
 
   join_tickets : {next serving : ℕ} → Tickets next serving views → Tickets next serving result
   join_tickets g =
@@ -137,22 +121,16 @@ module _ (views : List SeatState) (id other : ℕ) (v w : SeatState) (apart : ot
             only_join views id other b nobody apart g.apart
             (λ t mine. let e : None ≡ Some t = sym bare ∙ mine in absurd (cc))
             (λ t (nay : None ≡ Some t). absurd (cc));
-        within =
-            each_join views id other b nobody apart (λ j u _ _ atj. g.within j u atj) (g.within id v at)
-            (λ t (nay : None ≡ Some t). absurd (cc));
-        served =
-            each_join views id other b nobody apart (λ j u _ _ atj. g.served j u atj) (g.served id v at)
-            (λ (nay : false ≡ true). absurd (cc));
+        within = each_still g.within (g.within id v at) (λ t (nay : None ≡ Some t). absurd (cc));
+        served = each_still g.served (g.served id v at) (λ (nay : false ≡ true). absurd (cc));
         waiting =
             let s = total_join views id other b nobody apart (λ (u : SeatState). tickets_of u.stage) at at' in
             omega (arith, s, g.waiting);
         drawn =
             let s = total_join views id other b nobody apart (λ (u : SeatState). u.draws) at at' in
             omega (arith, s, g.drawn);
-        holder =
-            each_join views id other b nobody apart (λ j u _ _ atj. g.holder j u atj) (omega arith) (omega arith);
-        each_drawn =
-            each_join views id other b nobody apart (λ j u _ _ atj. g.each_drawn j u atj) (omega arith) (omega arith);
+        holder = each_still g.holder (omega arith) (omega arith);
+        each_drawn = each_still g.each_drawn (omega arith) (omega arith);
       }
 
   join_processes : {base : Setting} {count : ℕ} → Processes base count views → Processes base count result
@@ -169,11 +147,9 @@ module _ (views : List SeatState) (id other : ℕ) (v w : SeatState) (apart : ot
             (λ i j u x ati atj _. g.one_may_name i j u x ati atj)
             (λ _ mine j x nej _ atj theirs. nej (g.one_may_name j id x v atj at theirs mine))
             (λ _ (nay : false ≡ true). absurd (cc)) i j u x ati atj 0;
-        knows =
-            each_join views id other b nobody apart (λ j u _ _ atj. g.knows j u atj) (g.knows id v at)
-            (λ (nay : false ≡ true). absurd (cc));
+        knows = each_still g.knows (g.knows id v at) (λ (nay : false ≡ true). absurd (cc));
         named =
-            each_join views id other b nobody apart (λ j u _ _ atj. g.named j u atj)
+            each_still g.named
             (λ p has. ⊎_elim (g.named id v at p) (g.named other w w_at p) (has_append p v.owns w.owns has))
             (λ p (nay : ⊥). absurd nay);
         differ =
@@ -196,12 +172,8 @@ module _ (views : List SeatState) (id other : ℕ) (v w : SeatState) (apart : ot
             (λ nei. dite (ℕ_discrete i other)
             (λ e. ap served (one_view views e ati w_at) ∙ ap is_served idle')
             (λ neo. quiet i u (set_else (set views id b) other i nobody neo ∙ (set_else views id i b nei ∙ ati)))));
-        grips =
-            each_join views id other b nobody apart (λ j u _ _ atj. g.grips j u atj) (g.grips id v at)
-            (λ (nay : false ≡ true). absurd (cc));
-        of_base =
-            each_join views id other b nobody apart (λ j u _ _ atj. g.of_base j u atj) (g.of_base id v at)
-            (λ (nay : false ≡ true). absurd (cc));
+        grips = each_still g.grips (g.grips id v at) (λ (nay : false ≡ true). absurd (cc));
+        of_base = each_still g.of_base (g.of_base id v at) (λ (nay : false ≡ true). absurd (cc));
       }
 
   join_lists : {base : Setting} {count : ℕ} {log : List Item} → Lists base count log views →
@@ -219,11 +191,9 @@ module _ (views : List SeatState) (id other : ℕ) (v w : SeatState) (apart : ot
       let all_seen : (u : SeatState) → u.seen ≡ log → IsPrefix u.seen b.seen → b.seen ≡ log =
       λ u all more. prefix_both b.seen log begins (rw all at more) in
       record {
-        seen = each_join views id other b nobody apart (λ j u _ _ atj. g.seen j u atj) begins (log, refl);
-        olds = each_join views id other b nobody apart (λ j u _ _ atj. g.olds j u atj) (left, (right, tt)) tt;
-        owned =
-            each_join views id other b nobody apart (λ j u _ _ atj. g.owned j u atj)
-            (own_append base log v.owns w.owns (g.owned id v at) (g.owned other w w_at)) tt;
+        seen = each_still g.seen begins (log, refl);
+        olds = each_still g.olds (left, (right, tt)) tt;
+        owned = each_still g.owned (own_append base log v.owns w.owns (g.owned id v at) (g.owned other w w_at)) tt;
         strangers = g.strangers;
         longest = let l = g.longest in
             dite (ℕ_discrete l.0 id)

@@ -60,12 +60,10 @@ at_end (x ∷ xs) a b (suc j) e =
 pub each_end : {P : ℕ → SeatState → Type 0} (views : List SeatState) {w : SeatState} →
     ((j : ℕ) (u : SeatState) → At views j u → P j u) → P (length views) w
     → (j : ℕ) (u : SeatState) → At (views ++ w ∷ []) j u → P j u
-each_end {P} views {w} others mine j u e =
-    ⊎_elim
-    (λ (t : At views j u). others j u t)
-    (λ (t : (j ≡ length views) × (w ≡ u)).
-    subst (λ (x : SeatState). P j x) t.1 (subst (λ (k : ℕ). P k w) (sym t.0) mine))
-    (at_end views w u j e)
+each_end views {w} others mine j u e = elim (at_end views w u j e) [
+  | inl before ↦ others j u before
+  | inr here ↦ rw (here.0, ← here.1) mine
+]
 
 pub only_end : {K : ℕ → SeatState → Type 0} (views : List SeatState) {w : SeatState} →
     ((i j : ℕ) (u x : SeatState) → At views i u → At views j x → (t : ℕ) → K t u → K t x → i ≡ j)

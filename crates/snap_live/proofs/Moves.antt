@@ -167,12 +167,10 @@ mine_turns base log x os ts e all =
     rw e (ap (λ (us : List OwnTurn). us ++ new ∷ []) a.0 ∙ sym (turns_of-mine base (who x) log x refl), tt)
 
 same_count : (os : List Own) (d : OwnTurn) → length (with_turn os d) ≡ length os
-same_count [] d = refl
-same_count (o ∷ os) d = refl
+same_count os d = grind arith
 
 same_owners : (os : List Own) (d : OwnTurn) (p : ℕ) → HasProcess p (with_turn os d) → HasProcess p os
-same_owners [] d p h = h
-same_owners (o ∷ os) d p h = h
+same_owners os d p h = grind arith
 
 -- a step publishes, where it is named after an item and an outcome that equal these
 pub publishes_as : (base : Setting) (slots id : ℕ) (m : Mine) (t len : ℕ) (x x' : Item)

@@ -1,6 +1,6 @@
 -- A new desk's table satisfies the `TableInvariant`; and a turn, as the seat that made it is seen by callers.
 use Rattle.std.proofs.Common.{◌≡◌, ℕ, zero, suc, ◌≤◌, ◌^◌, List, [], ◌∷◌, ◌++◌, length, refl, sym, ap, ◌∙◌}
-use Rattle.std.proofs.Common.{subst, arith, true, false, Some, None}
+use Rattle.std.proofs.Common.{arith, true, false, Some, None}
 use mathlib.Core.Option.{some, some-injective, some-ne-none}
 use Rattle.atomic_table.specs.Table.{opening}
 use Rattle.atomic_table.specs.Seated.{TableId}
@@ -52,8 +52,7 @@ alone v u zero e = (refl, some-injective v u e)
 alone v u (suc i) e = absurd (some-ne-none u (sym e))
 
 only : (P : ℕ → SeatState → Type 0) (v : SeatState) → P 0 v → (i : ℕ) (u : SeatState) → At (v ∷ []) i u → P i u
-only P v p i u e =
-    let a = alone v u i e in subst (λ (x : SeatState). P i x) a.1 (subst (λ (k : ℕ). P k v) (sym a.0) p)
+only P v p i u e = let here = alone v u i e in rw (here.0, ← here.1) p
 
 pub opens : (base : Setting) → base.shape.n ≤ 2 ^ 16 →
     TableInvariant base (opening (0 ∷ 0 ∷ 0 ∷ 0 ∷ []) (Some (let h : Run = run_of base [] in h) ∷ []) (newcomer base))

@@ -1,7 +1,7 @@
 -- The parts of the `TableInvariant` of a desk (tickets, processes, slot, lists) still hold where one `SeatState`
 -- changes.
 use Rattle.std.proofs.Common.{◌≡◌, ◌≢◌, ℕ, ◌*◌, ◌≤◌, ◌^◌, List, [], ◌∷◌, length, set, sym, ap, ◌∙◌, arith}
-use Rattle.std.proofs.Common.{refl, Bool, true, false, Option, Some}
+use Rattle.std.proofs.Common.{Bool, true, false, Option, Some}
 use mathlib.Core.Option.{Option as Maybe}
 use mathlib.Core.Logic.{dite}
 use mathlib.Core.List.{IsPrefix}
@@ -19,8 +19,7 @@ use Rattle.snap_live.proofs.Lists.{each_set, each_kept, only_kept, one_kept, tot
 use Rattle.snap_live.proofs.Runs.{prefix_chain}
 
 pub is_false : (b : Bool) → (b ≡ true → ⊥) → b ≡ false
-is_false true nay = absurd (nay refl)
-is_false false nay = refl
+is_false b nay = grind arith
 
 -- the next ticket is far below 2 ^ 64
 pub next_small : {base : Setting} {next serving count : ℕ} {views : List SeatState} → Tickets next serving views →

@@ -1,7 +1,8 @@
 -- The turns of a process (`turns_of`) in a desk's history with one more item; and laws of prefixes of lists of items.
-use Rattle.std.proofs.Common.{◌≡◌, ◌≢◌, ℕ, suc, ◌+◌, ◌≤◌, List, [], ◌∷◌, ◌++◌, length, refl, sym, ap, ◌∙◌, subst}
-use Rattle.std.proofs.Common.{arith, Bool, true, false, append_assoc, append-nil, ne_eqb, eq-eqb, nat_eq}
-use Rattle.std.proofs.lemmas.List.{take_all}
+use Rattle.std.proofs.Common.{◌≡◌, ◌≢◌, ℕ, suc, ◌+◌, ◌≤◌, List, [], ◌∷◌, ◌++◌, length, take, drop, refl, sym, ap, ◌∙◌}
+use Rattle.std.proofs.Common.{subst, arith, Bool, append_assoc, append-nil, ne_eqb, eq-eqb, nat_eq}
+use Rattle.std.proofs.Math.Seq.{take-append_seam}
+use Rattle.std.proofs.lemmas.List.{take-append-drop, take-append-le, take_all}
 use mathlib.Core.List.{IsPrefix}
 use Rattle.snap_semantics.specs.declared.process.Item.{Item}
 use Rattle.snap_semantics.specs.declared.process.Outcome.{Outcome}
@@ -31,8 +32,7 @@ last-push base xs x =
     ∙ ap (λ (S : State). (done base.source base.shape S x).1) (whole base xs)
 
 put_if-append : (b : Bool) (t : OwnTurn) (xs ys : List OwnTurn) → put_if b t (xs ++ ys) ≡ put_if b t xs ++ ys
-put_if-append true t xs ys = refl
-put_if-append false t xs ys = refl
+put_if-append b t xs ys = grind arith
 
 turns_from-push : (base : Setting) (S : State) (k p : ℕ) (xs : List Item) (x : Item)
     → turns_from base S k p (xs ++ x ∷ [])
@@ -50,32 +50,21 @@ turns_from-push base S k p (y ∷ ys) x =
     ∙ ap (λ (m : ℕ).
     put_if (nat_eq p (who y)) t (turns_from base S' (k + 1) p ys) ++ put_if (nat_eq p (who x)) (own_turn m x o) []) n
 
-zeroes : (n : ℕ) → 0 + n ≡ n
-zeroes n = omega arith
-
 -- a turn of this process
 pub turns_of-mine : (base : Setting) (p : ℕ) (xs : List Item) (x : Item) → p ≡ who x
     → turns_of base p (xs ++ x ∷ [])
     ≡ turns_of base p xs ++ own_turn (length (xs ++ x ∷ [])) x (last_outcome base (xs ++ x ∷ [])) ∷ []
 turns_of-mine base p xs x e =
-    let S : State = initial base.source base.shape in
-    let o : Outcome = (done base.source base.shape (after base.source base.shape S xs) x).1 in
-    turns_from-push base S 0 p xs x
-    ∙ ap (λ (b : Bool). turns_of base p xs ++ put_if b (own_turn (0 + length (xs ++ x ∷ [])) x o) [])
-    (eq-eqb p (who x) e)
-    ∙ ap (λ (m : ℕ). turns_of base p xs ++ own_turn m x o ∷ []) (zeroes (length (xs ++ x ∷ [])))
-    ∙ ap (λ (o : Outcome). turns_of base p xs ++ own_turn (length (xs ++ x ∷ [])) x o ∷ []) (sym (last-push base xs x))
+    let zeroes : 0 + length (xs ++ x ∷ []) ≡ length (xs ++ x ∷ []) = omega arith in
+    turns_from-push base (initial base.source base.shape) 0 p xs x
+    ∙ rw (eq-eqb p (who x) e, zeroes, last-push base xs x) refl
 
 -- a turn of another
 pub turns_of-other : (base : Setting) (p : ℕ) (xs : List Item) (x : Item) → p ≢ who x →
     turns_of base p (xs ++ x ∷ []) ≡ turns_of base p xs
 turns_of-other base p xs x ne =
-    let S : State = initial base.source base.shape in
-    turns_from-push base S 0 p xs x
-    ∙ ap (λ (b : Bool). turns_of base p xs ++ put_if b
-    (own_turn (0 + length (xs ++ x ∷ [])) x (done base.source base.shape (after base.source base.shape S xs) x).1) [])
-    (ne_eqb p (who x) ne)
-    ∙ append-nil (turns_of base p xs)
+    turns_from-push base (initial base.source base.shape) 0 p xs x
+    ∙ rw (ne_eqb p (who x) ne) (append-nil (turns_of base p xs))
 
 pub prefix_same : (xs : List Item) → IsPrefix xs xs
 prefix_same xs = ([], append-nil xs)
@@ -88,13 +77,8 @@ prefix_chain xs ys zs p q = subst (λ (l : List Item). IsPrefix xs l) q.1 (prefi
 
 -- of two beginnings of one list the shorter begins the longer
 pub prefix_shorter : (xs ys l : List Item) → IsPrefix xs l → IsPrefix ys l → length xs ≤ length ys → IsPrefix xs ys
-prefix_shorter [] ys l p q le = (ys, refl)
-prefix_shorter (x ∷ xs) [] l p q le = absurd (omega arith)
-prefix_shorter (x ∷ xs) (y ∷ ys) [] p q le = let e = p.1 in absurd (cc)
-prefix_shorter (x ∷ xs) (y ∷ ys) (z ∷ zs) p q le =
-    let e = p.1 in let f = q.1 in
-    let tail : xs ++ p.0 ≡ zs = cc in
-    let tail' : ys ++ q.0 ≡ zs = cc in
-    let r = prefix_shorter xs ys zs (p.0, tail) (q.0, tail') (omega arith) in
-    let same : x ≡ y = cc in
-    (r.0, λ k. same k ∷ r.1 k)
+prefix_shorter xs ys l p q le =
+    let front : take (length xs) ys ≡ xs =
+    sym (take-append-le (length xs) ys q.0 le) ∙ ap (take (length xs)) (q.1 ∙ sym p.1) ∙ take-append_seam xs p.0 in
+    let rest = drop (length xs) ys in
+    (rest, ap (λ (k : List Item). k ++ rest) (sym front) ∙ take-append-drop (length xs) ys)

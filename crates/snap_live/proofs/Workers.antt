@@ -1,13 +1,12 @@
 -- What all workers of a live run did, put together: the first of them to stop, and the turns of each process in one
 -- record.
 use Rattle.std.proofs.Common.{◌≡◌, ◌⊎◌, ℕ, zero, suc, ◌+◌, ◌-◌, ◌*◌, ◌<◌, ◌≤◌, List, [], ◌∷◌, ◌++◌, length, map}
-use Rattle.std.proofs.Common.{get_or, refl, sym, ap, ◌∙◌, subst, ⊎_elim, inl, inr, arith, Bool, true, false, Option}
-use Rattle.std.proofs.Common.{Some, None, eq-eqb, length-append}
+use Rattle.std.proofs.Common.{get_or, refl, sym, ap, ◌∙◌, inl, inr, arith, Bool, true, false, Option}
+use Rattle.std.proofs.Common.{Some, None, add-one, eq-eqb, length-append}
 use Rattle.std.specs.Prelude.{All, nat_eq}
+use Rattle.std.proofs.lemmas.Bool.{cases_eq}
 use Rattle.std.proofs.lemmas.List.{get_or_append_left, get_or_default, get_or_push, length-map}
 use Rattle.std.specs.List.{AllByRecursion}
-use mathlib.Core.Logic.{dite}
-use native.Mathlib.Decide.{ℕ_discrete}
 use Rattle.snap_semantics.specs.declared.process.Item.{Item}
 use Rattle.snap_live.specs.declared.seat_state.Setting.{Setting}
 use Rattle.snap_live.specs.declared.seat_state.OwnTurn.{OwnTurn}
@@ -46,14 +45,11 @@ pub seats_at : (d : DeskView) (n k : ℕ) (s : SeatView) → k < n → get_or (s
 seats_at d zero k s lt = absurd (omega arith)
 seats_at d (suc n) k s lt =
     let len = seats_length d n in
-    dite (ℕ_discrete k n)
-    (λ e.
-    let at : k ≡ length (seats_of d n) = e ∙ sym len in
-    ap (λ (j : ℕ). get_or (seats_of d n ++ seat_of d (suc n) ∷ []) j s) at
-    ∙ get_or_push (seats_of d n) (seat_of d (suc n)) s _ refl
-    ∙ ap (seat_of d) (let m : suc n ≡ k + 1 = omega arith in m))
-    (λ ne.
-    get_or_append_left (seats_of d n) (seat_of d (suc n) ∷ []) s k (omega arith) ∙ seats_at d n k s (omega arith))
+    elim (cases_eq k n) [
+      | inl same ↦ rw (get_or_push (seats_of d n) (seat_of d (suc n)) s k (len ∙ sym same), same, add-one)
+      | inr other ↦
+          get_or_append_left (seats_of d n) (seat_of d (suc n) ∷ []) s k (omega arith) ∙ seats_at d n k s (omega arith)
+    ]
 
 -- what start_all asks of each seat
 pub new_seats : (d : DeskView) (n : ℕ) (ss : List SeatView) → ss ≡ seats_of d n →
@@ -111,8 +107,7 @@ workers_of {H = H} {M = M} seat_in script_in gate_in limit_in may desk scripts l
 
 or_then : (p q : ℕ) (o r : Option Stop) (l : Option (ℕ × Stop)) →
     or_first p o (then_first l q r) ≡ then_first (or_first p o l) q r
-or_then p q None r l = refl
-or_then p q (Some f) r l = refl
+or_then p q o r l = grind arith
 
 pub first-push : (ws : List WorkedView) (w : WorkedView) →
     first_stop (ws ++ w ∷ []) ≡ then_first (first_stop ws) w.seat.process w.stop
@@ -122,8 +117,7 @@ first-push (v ∷ vs) w =
     ∙ or_then v.seat.process w.seat.process v.stop w.stop (first_stop vs)
 
 none_first : (p : ℕ) (o : Option Stop) (l : Option (ℕ × Stop)) → or_first p o l ≡ None → (o ≡ None) × (l ≡ None)
-none_first p None l e = (refl, e)
-none_first p (Some f) l e = absurd (cc)
+none_first p o l e = grind arith
 
 no_stop : (ws : List WorkedView) (k : ℕ) (d : WorkedView) → first_stop ws ≡ None →
     k < length ws → (get_or ws k d).stop ≡ None
@@ -141,37 +135,31 @@ record Stopping (ws : List WorkedView) (pf : ℕ × Stop) : Type 0 where
 
 some_first : (p : ℕ) (o : Option Stop) (l : Option (ℕ × Stop)) (pf : ℕ × Stop) → or_first p o l ≡ Some pf →
     ((p ≡ pf.0) × (o ≡ Some pf.1)) ⊎ ((o ≡ None) × (l ≡ Some pf))
-some_first p None l pf e = inr (refl, e)
-some_first p (Some f) l pf e =
-    let s : (p, f) ≡ pf = cc in
-    inl (ap (λ (x : ℕ × Stop). x.0) s, ap (λ (x : ℕ × Stop). Some x.1) s)
+some_first p o l pf e = grind arith
 
 none_before : (w : WorkedView) (ws : List WorkedView) (k : ℕ) → w.stop ≡ None →
     ((j : ℕ) (d : WorkedView) → j < k → (get_or ws j d).stop ≡ None)
     → (j : ℕ) (d : WorkedView) → j < suc k → (get_or (w ∷ ws) j d).stop ≡ None
-none_before w ws k here more zero d lt = here
-none_before w ws k here more (suc j) d lt = more j d (omega arith)
+none_before w ws k here more j d lt = grind arith
 
 a_stop : (ws : List WorkedView) (pf : ℕ × Stop) → first_stop ws ≡ Some pf → Stopping ws pf
 a_stop [] pf e = absurd (cc)
-a_stop (w ∷ ws) pf e =
-    ⊎_elim
-    (λ (h : (w.seat.process ≡ pf.0) × (w.stop ≡ Some pf.1)). record {
-      at = 0;
-      there = omega arith;
-      process = λ d. h.0;
-      stop = λ d. h.1;
-      before = λ j d lt. absurd (omega arith);
-    })
-    (λ (m : (w.stop ≡ None) × (first_stop ws ≡ Some pf)).
-    let r = a_stop ws pf m.1 in record {
-      at = suc r.at;
-      there = (let lt = r.there in omega arith);
-      process = r.process;
-      stop = r.stop;
-      before = none_before w ws r.at m.0 r.before;
-    })
-    (some_first w.seat.process w.stop (first_stop ws) pf e)
+a_stop (w ∷ ws) pf e = elim (some_first w.seat.process w.stop (first_stop ws) pf e) [
+  | inl here ↦ record {
+    at = 0;
+    there = omega arith;
+    process = λ d. here.0;
+    stop = λ d. here.1;
+    before = λ j d lt. absurd (omega arith);
+  }
+  | inr later ↦ (let r = a_stop ws pf later.1 in record {
+    at = suc r.at;
+    there = omega (arith, r.there);
+    process = r.process;
+    stop = r.stop;
+    before = none_before w ws r.at later.0 r.before;
+  })
+]
 
 -- how often a process has an item
 
@@ -179,79 +167,68 @@ one_if : Bool → ℕ
 one_if true = 1
 one_if false = 0
 
+times : ℕ → List Item → ℕ
+times p [] = 0
+times p (x ∷ xs) = times p xs + one_if (nat_eq p (who x))
+
 put_length : (c : Bool) (t : OwnTurn) (ts : List OwnTurn) → length (put_if c t ts) ≡ length ts + one_if c
 unfolding one_if
 put_length true t ts = omega arith
 put_length false t ts = omega arith
 
--- how many turns a process has does not hang on the state
-same_times : (base : Setting) (S T : State) (k l p : ℕ) (xs : List Item) →
-    length (turns_from base S k p xs) ≡ length (turns_from base T l p xs)
-same_times base S T k l p [] = refl
-same_times base S T k l p (x ∷ xs) =
-    let a = done base.source base.shape S x in let b = done base.source base.shape T x in
-    let here = put_length (nat_eq p (who x)) (own_turn (k + 1) x a.1) (turns_from base a.0 (k + 1) p xs) in
-    let there = put_length (nat_eq p (who x)) (own_turn (l + 1) x b.1) (turns_from base b.0 (l + 1) p xs) in
-    let more = same_times base a.0 b.0 (k + 1) (l + 1) p xs in omega arith
+-- that is how many turns the process has, from any state on
+turns_times : (base : Setting) (S : State) (k p : ℕ) (xs : List Item) →
+    length (turns_from base S k p xs) ≡ times p xs
+unfolding times
+turns_times base S k p [] = refl
+turns_times base S k p (x ∷ xs) =
+    let d = done base.source base.shape S x in
+    omega (
+      arith,
+      put_length (nat_eq p (who x)) (own_turn (k + 1) x d.1) (turns_from base d.0 (k + 1) p xs),
+      turns_times base d.0 (k + 1) p xs,
+    )
 
 -- the items of processes 1 to n
-counted : Setting → State → ℕ → List Item → ℕ
-counted base S zero xs = 0
-counted base S (suc n) xs = counted base S n xs + length (turns_from base S 0 (suc n) xs)
+counted : ℕ → List Item → ℕ
+counted zero xs = 0
+counted (suc n) xs = counted n xs + times (suc n) xs
 
 hits : ℕ → ℕ → ℕ
 hits zero w = 0
 hits (suc n) w = hits n w + one_if (nat_eq (suc n) w)
 
-counted-cons : (base : Setting) (S : State) (n : ℕ) (x : Item) (xs : List Item)
-    → counted base S n (x ∷ xs) ≡ counted base (done base.source base.shape S x).0 n xs + hits n (who x)
-unfolding counted hits
-counted-cons base S zero x xs = refl
-counted-cons base S (suc n) x xs =
-    let d = done base.source base.shape S x in
-    let a = counted-cons base S n x xs in
-    let b = put_length (nat_eq (suc n) (who x)) (own_turn 1 x d.1) (turns_from base d.0 1 (suc n) xs) in
-    let c = same_times base d.0 d.0 1 0 (suc n) xs in omega arith
+counted-cons : (n : ℕ) (x : Item) (xs : List Item) → counted n (x ∷ xs) ≡ counted n xs + hits n (who x)
+unfolding counted hits times
+counted-cons zero x xs = refl
+counted-cons (suc n) x xs = let more = counted-cons n x xs in omega arith
 
 hit_one : (n w : ℕ) → IsOneOf n w → 1 ≤ hits n w
 unfolding hits one_if
-hit_one zero w b = absurd (omega (arith, b.0, b.1))
-hit_one (suc n) w b = dite (ℕ_discrete (suc n) w)
-    (λ e. let t : one_if (nat_eq (suc n) w) ≡ 1 = ap one_if (eq-eqb (suc n) w e) in omega arith)
-    (λ ne. let h = hit_one n w (b.0, (let le = b.1 in omega arith)) in omega arith)
+hit_one zero w b = absurd (omega arith)
+hit_one (suc n) w b = elim (cases_eq (suc n) w) [
+  | inl same ↦ omega (arith, ap one_if (eq-eqb (suc n) w same))
+  | inr other ↦ omega (arith, hit_one n w (b.0, omega arith))
+]
 
-all_counted : (base : Setting) (S : State) (n : ℕ) (xs : List Item) →
-    AllByRecursion (λ (x : Item). IsOneOf n (who x)) xs → length xs ≤ counted base S n xs
-all_counted base S n [] all = omega arith
-all_counted base S n (x ∷ xs) all =
-    let e = counted-cons base S n x xs in let h = hit_one n (who x) all.0 in
-    let r = all_counted base (done base.source base.shape S x).0 n xs all.1 in omega arith
+all_counted : (n : ℕ) (xs : List Item) → AllByRecursion (λ (x : Item). IsOneOf n (who x)) xs → length xs ≤ counted n xs
+all_counted n [] all = omega arith
+all_counted n (x ∷ xs) all = omega (arith, counted-cons n x xs, hit_one n (who x) all.0, all_counted n xs all.1)
 
--- where each process has at most so many, and one has fewer
-counted_few : (base : Setting) (S : State) (n limit : ℕ) (xs : List Item)
-    → ((p : ℕ) → IsOneOf n p → length (turns_from base S 0 p xs) ≤ limit) → counted base S n xs ≤ n * limit
+-- where each process has at most so many, they are at most so many times n, and fewer where one has fewer
+counted_few : (n limit q : ℕ) (xs : List Item) → ((p : ℕ) → IsOneOf n p → times p xs ≤ limit) →
+    (counted n xs ≤ n * limit) × (IsOneOf n q → times q xs < limit → counted n xs < n * limit)
 unfolding counted
-counted_few base S zero limit xs each = omega arith
-counted_few base S (suc n) limit xs each =
-    let r = counted_few base S n limit xs (λ p b. each p (b.0, (let le = b.1 in omega arith))) in
-    let h = each (suc n) (omega arith, omega arith) in omega arith
-
-counted_fewer : (base : Setting) (S : State) (n limit q : ℕ) (xs : List Item)
-    → ((p : ℕ) → IsOneOf n p → length (turns_from base S 0 p xs) ≤ limit) → IsOneOf n q →
-    length (turns_from base S 0 q xs) < limit → counted base S n xs < n * limit
-unfolding counted
-counted_fewer base S zero limit q xs each one few = absurd (omega (arith, one.0, one.1))
-counted_fewer base S (suc n) limit q xs each one few =
-    let down : (p : ℕ) → IsOneOf n p → length (turns_from base S 0 p xs) ≤ limit =
-    λ p b. each p (b.0, (let le = b.1 in omega arith)) in
-    dite (ℕ_discrete q (suc n))
-    (λ e.
-    let r = counted_few base S n limit xs down in
-    let h : length (turns_from base S 0 (suc n) xs) < limit =
-    subst (λ (k : ℕ). length (turns_from base S 0 k xs) < limit) e few in omega arith)
-    (λ ne.
-    let r = counted_fewer base S n limit q xs down (one.0, (let le = one.1 in omega arith)) few in
-    let h = each (suc n) (omega arith, omega arith) in omega arith)
+counted_few zero limit q xs each = (omega arith, λ one few. absurd (omega arith))
+counted_few (suc n) limit q xs each =
+    let more = counted_few n limit q xs (λ p one. each p (one.0, omega arith)) in
+    let here = each (suc n) (omega arith, omega arith) in (
+      omega (arith, more.0),
+      λ one few. elim (cases_eq q (suc n)) [
+        | inl same ↦ (let fewer : times (suc n) xs < limit = rw same at few in omega (arith, more.0))
+        | inr other ↦ omega (arith, more.1 (one.0, omega arith) few)
+      ],
+    )
 
 pub few_items : (base : Setting) (limit q : ℕ) (xs : List Item) →
     AllByRecursion (λ (x : Item). IsOneOf base.shape.n (who x)) xs
@@ -259,9 +236,10 @@ pub few_items : (base : Setting) (limit q : ℕ) (xs : List Item) →
     length (turns_of base q xs) < limit
     → length xs < base.shape.n * limit
 few_items base limit q xs all each one few =
-    let S = initial base.source base.shape in
-    let a = all_counted base S base.shape.n xs all in
-    let b = counted_fewer base S base.shape.n limit q xs each one few in omega arith
+    let so_often : (p : ℕ) → length (turns_of base p xs) ≡ times p xs =
+    λ p. turns_times base (initial base.source base.shape) 0 p xs in
+    let counts = counted_few base.shape.n limit q xs (λ p is. rw (← so_often p) (each p is)) in
+    omega (arith, all_counted base.shape.n xs all, counts.1 one (rw (← so_often q) few))
 
 -- a worker's turns are a whole play of its script, or a begun one
 whole_or_begun : (may : ℕ → ℕ → Bool → Type 0) (script : Script) (limit : ℕ) (seat : SeatView) (o : Option Stop) →
@@ -422,9 +400,8 @@ module _ (may : ℕ → ℕ → Bool → Type 0) (desk : DeskView) (scripts : Li
         let up = gives_up pf at n fits short in
         let goes_on : MayGoOn may p (length (turns_of desk.base p items)) limit =
         of_record pf at (λ q made. MayGoOn may q made limit) why.1 in
-        let every : (q : ℕ) → IsOneOf desk.base.shape.n q → length (turns_of desk.base q items) ≤ limit =
-        λ q one. few_own q (one.0, (let le = one.1 in omega arith)) in
-        let few = few_items desk.base limit p items fits.all every up.one goes_on.fewer in (
+        let few = few_items desk.base limit p items fits.all (λ q one. few_own q (one.0, omega arith)) up.one
+        goes_on.fewer in (
           refl,
           record { items = items; process = p; given_up = up; full = all; goes_on = goes_on; many = (omega arith) },
         )

@@ -12,20 +12,10 @@ unwrap-kept-requires g c =
     c.close_with-closed.ensures.values.2 c.take.ensures.value in
     subst (λ (o : Option Run). IsSome o) (sym st.1) refl
 
-pub returns-clause-base : goal.returns-clause-base
-returns-clause-base g c =
-    (kept_is _ c.args.table_seat.id c.args.table_seat.me.0 _ _ _ c.into_record.result c.requires.table_seat.0.1
+pub returns : goal.returns
+returns g c =
+    let kept =
+    kept_is _ c.args.table_seat.id c.args.table_seat.me.0 _ _ _ c.into_record.result c.requires.table_seat.0.1
     c.requires.table_seat.1 c.close_with-closed.ensures.values.2 c.take.ensures.value
-    (c.unwrap-kept.ensures ∙ ap (λ (r : Run). Some r) (sym c.into_record.ensures))).0
-
-pub returns-clause-seen : goal.returns-clause-seen
-returns-clause-seen g c =
-    (kept_is _ c.args.table_seat.id c.args.table_seat.me.0 _ _ _ c.into_record.result c.requires.table_seat.0.1
-    c.requires.table_seat.1 c.close_with-closed.ensures.values.2 c.take.ensures.value
-    (c.unwrap-kept.ensures ∙ ap (λ (r : Run). Some r) (sym c.into_record.ensures))).1
-
-pub returns-clause-turns : goal.returns-clause-turns
-returns-clause-turns g c =
-    (kept_is _ c.args.table_seat.id c.args.table_seat.me.0 _ _ _ c.into_record.result c.requires.table_seat.0.1
-    c.requires.table_seat.1 c.close_with-closed.ensures.values.2 c.take.ensures.value
-    (c.unwrap-kept.ensures ∙ ap (λ (r : Run). Some r) (sym c.into_record.ensures))).2
+    (c.unwrap-kept.ensures ∙ ap (λ (r : Run). Some r) (sym c.into_record.ensures)) in
+    record { base = kept.0; seen = kept.1; turns = kept.2 }

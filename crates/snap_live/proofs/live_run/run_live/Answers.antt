@@ -1,7 +1,6 @@
 -- `run_live` of snap_live (src/live_run.rt): the proof of what its contract says.
-use Rattle.std.proofs.Common.{◌≡◌, ◌∙◌, List, ap, sym, subst}
+use Rattle.std.proofs.Common.{◌≡◌, ◌∙◌, List, sym, subst}
 use Rattle.std.specs.Prelude.{All}
-use Rattle.snap_words.specs.Shape.{Counts}
 use Rattle.snap_semantics.specs.declared.fault.Fault.{Fault}
 use Rattle.snap_live.specs.declared.seat_state.Setting.{Setting}
 use Rattle.snap_semantics.specs.declared.refusal.LiveRefusal.{LiveRefusal}
@@ -21,8 +20,7 @@ pub unreachable-requires : goal.unreachable-requires
 unreachable-requires g c =
     let s = c.results_of-seats in
     let base : Setting = record { source = c.args.program.now; shape = c.args.scripts.now.shape } in
-    let of_base : c.in_ok-desk.desk.base ≡ base = c.in_ok-desk.ensures.desk ∙ ap
-    (λ (n : Counts). let b : Setting = record { source = c.args.program.now; shape = n } in b) c.shape.ensures.shape in
+    let of_base : c.in_ok-desk.desk.base ≡ base = rw (← c.shape.ensures.shape) c.in_ok-desk.ensures.desk in
     nobody_missing (g.G.Gate.may_answer c.args.gate.now) c.in_ok-desk.desk base c.args.scripts.now.scripts
     c.args.limit c.in_ok-worked.worked.items c.in_ok-worked.ensures
     of_base c.shape.ensures.scripts.each s.result.seats.items s.ensures.seats c.in_default.field-0.0
@@ -32,8 +30,7 @@ pub returns-in-None-clause-ok : goal.returns-in-None-clause-ok
 returns-in-None-clause-ok g c =
     let s = c.results_of-seats in let k = c.in-Ok in
     let base : Setting = record { source = c.args.program.now; shape = c.args.scripts.now.shape } in
-    let of_base : c.in_ok-desk.desk.base ≡ base = c.in_ok-desk.ensures.desk ∙ ap
-    (λ (n : Counts). let b : Setting = record { source = c.args.program.now; shape = n } in b) c.shape.ensures.shape in
+    let of_base : c.in_ok-desk.desk.base ≡ base = rw (← c.shape.ensures.shape) c.in_ok-desk.ensures.desk in
     run_ends (g.G.Gate.may_answer c.args.gate.now) c.in_ok-desk.desk base c.args.scripts.now.scripts c.args.limit
     c.in_ok-worked.worked.items c.in_ok-worked.ensures
     of_base c.shape.ensures.scripts.each s.result.seats.items s.ensures.seats k.kept k.ensures.kept.0 k.ensures.kept.1
@@ -43,8 +40,7 @@ pub returns-in-Some-clause-err : goal.returns-in-Some-clause-err
 returns-in-Some-clause-err g c =
     let s = c.results_of-seats in let k = c.in-Ok in let f = c.in-Some in
     let base : Setting = record { source = c.args.program.now; shape = c.args.scripts.now.shape } in
-    let of_base : c.in_ok-desk.desk.base ≡ base = c.in_ok-desk.ensures.desk ∙ ap
-    (λ (n : Counts). let b : Setting = record { source = c.args.program.now; shape = n } in b) c.shape.ensures.shape in
+    let of_base : c.in_ok-desk.desk.base ≡ base = rw (← c.shape.ensures.shape) c.in_ok-desk.ensures.desk in
     subst (λ (x : Fault LiveRefusal).
     MayFault (g.G.Gate.may_answer c.args.gate.now) base c.args.scripts.now.scripts c.args.limit x)
     (sym c.fault_of.ensures)

@@ -1,2 +1,2 @@
 -- The proofs of snap_history_laws, by their modules.
-mod Telling
+pub mod Telling

@@ -5,5 +5,4 @@ mod Linear
 mod Once
 mod Cutting
 mod Judged
-mod Threads
 mod Shipped

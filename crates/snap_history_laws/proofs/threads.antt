@@ -1,10 +1,11 @@
 -- The proofs of snap_history_laws, by their modules.
 pub mod Turning
+pub mod Spans
 mod Operations
 mod Linear
 mod Closing
 mod Playing
 mod Noting
-mod Shipped
+pub mod Shipped
 mod Samples
 mod MadeUp

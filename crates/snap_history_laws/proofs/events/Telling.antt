@@ -1,156 +1,101 @@
 -- `EventsTellOperations`: each event of a run has taken place, and the call and the end of each operation are among
--- the events; item by item.
-use Rattle.std.proofs.Common.{◌≡◌, ℕ, zero, suc, ◌+◌, ◌<◌, ◌≤◌, List, [], ◌∷◌, ◌++◌, length}
-use Rattle.std.proofs.Common.{Option, Some, None, refl, sym, subst, arith}
+-- the events.
+use Rattle.std.proofs.Common.{◌≡◌, ℕ, zero, suc, ◌+◌, ◌<◌, ◌≤◌, List, [], ◌∷◌, ◌++◌, length, take, drop}
+use Rattle.std.proofs.Common.{Some, refl, sym, ap, ◌∙◌, arith}
 use Rattle.std.specs.List.{All, Contains}
-use Rattle.std.proofs.lemmas.List.Elements.{All-append, All-cons, All-nil, All-same}
-use Rattle.std.proofs.lemmas.List.Elements.{Contains-append_left, Contains-append_right}
-use Rattle.snap_semantics.specs.Run.{event_of}
+use Rattle.std.proofs.lemmas.List.{length-take-le, take-append-drop, take_all}
+use Rattle.std.proofs.lemmas.List.Elements.{All-append, All-cons, All-nil, Contains-append_left, Contains-append_right}
+use Rattle.snap_semantics.specs.Run.{event_of, events}
+use Rattle.snap_semantics.specs.State.{initial}
 use Rattle.snap_semantics.specs.Table.{who}
 use Rattle.snap_semantics.specs.declared.event.Event.{Event}
-use Rattle.snap_semantics.specs.declared.event.Happening.{Happening}
 use Rattle.snap_semantics.specs.declared.event.Happening.TheVariants as what
 use Rattle.snap_semantics.specs.declared.process.Item.{Item}
 use Rattle.snap_semantics.specs.declared.process.Item.TheVariants as items
-use Rattle.snap_semantics.specs.declared.process.Op.{Op}
-use Rattle.snap_semantics.specs.declared.process.Op.TheVariants as op
 use Rattle.snap_semantics.specs.declared.process.Outcome.{Outcome}
 use Rattle.snap_semantics.specs.declared.process.Outcome.TheVariants as outcomes
-use Rattle.snap_runs.specs.Operation.{Action, EndsAreOfOperations, Sees, Sets, TookPlace}
-use Rattle.snap_runs.specs.Run.{IsValidRun, Run, events_of, item, outcome}
-use Rattle.snap_runs.specs.Update.{PendingUpdate}
+use Rattle.snap_runs.specs.Operation.{Action, EndsAreOfOperations, Sees, Sets}
+use Rattle.snap_runs.specs.Run.{IsValidRun, Run, events_of, item, outcome, state}
 use Rattle.snap_record.proofs.Events.{all_events, events_from, next_events, no_events}
+use Rattle.snap_record.proofs.Longer.{events_append}
+use Rattle.snap_judge.specs.Linearizable.{called_as, ends_as, event}
+use Rattle.snap_judge.proofs.ExplainedLists.{contains_head}
 use Rattle.snap_history_laws.specs.events.EventLaws.{EventsTellOperations, Tells}
-use Rattle.snap_judge.specs.Linearizable.{called_as, ends_as}
+use Rattle.snap_history_laws.proofs.threads.Spans.{EndsNext, ended_as, to_span}
 
--- an event
-abbrev told : (i t : ℕ) → Happening → Event
-told i t h = record { item = t; process = i; what = h }
+module _ (r : Run) where
+  -- the events of item t
+  abbrev events_at : ℕ → List Event
+  events_at t = event_of t (item r t) (outcome r t)
 
--- an event alone
-alone : (e : Event) → Contains (e ∷ []) e
-alone e = (0, omega arith, refl)
+  -- the events up to an item, and those behind it
+  pub split : (t : ℕ) → t ≤ length r.items → events_of r (length r.items) ≡ events_of r t ++ events_from r t
+  split t le =
+      let next : 1 + length (take t r.items) ≡ suc t = omega (arith, length-take-le t r.items le) in
+      ap (events r.source r.shape (initial r.source r.shape) 1)
+      (take_all (length r.items) r.items (omega arith) ∙ sym (take-append-drop t r.items))
+      ∙ events_append r.source r.shape (initial r.source r.shape) 1 (take t r.items) (drop t r.items)
+      ∙ ap (λ k. events_of r t ++ events r.source r.shape (state r t) k (drop t r.items)) next
+
+  -- an event of an item is among all
+  among : (t : ℕ) (e : Event) → 0 < t → t ≤ length r.items → Contains (events_at t) e →
+      Contains (events_of r (length r.items)) e
+  among zero e some le has = absurd (omega arith)
+  among (suc t) e some le has =
+      rw (split t (omega arith), next_events r t (omega arith))
+      (Contains-append_right (events_of r t) (events_at (suc t) ++ events_from r (suc t)) e
+      (Contains-append_left (events_at (suc t)) (events_from r (suc t)) e has))
+
+  -- the end of an operation is told
+  pub end_told : (i t : ℕ) (a : Action) → 0 < t → t ≤ length r.items → who (item r t) ≡ i →
+      outcome r t ≡ ended_as a → Contains (events_of r (length r.items)) (event i t (ends_as a))
+  end_told i t (Sets word value) some le his is =
+      let done : outcome r t ≡ outcomes.Finished = is in
+      among t (event i t what.Done) some le (rw (← his, done) (contains_head (event (who (item r t)) t what.Done) []))
+  end_told i t (Sees view) some le his is =
+      let told : outcome r t ≡ outcomes.Answered view = is in
+      among t (event i t (what.Answer view)) some le
+      (rw (← his, told) (contains_head (event (who (item r t)) t (what.Answer view)) []))
 
 module _ (ends_are : EndsAreOfOperations) (r : Run) (fits : IsValidRun r) where
   abbrev IsTrue : Event → Type 0
   IsTrue e = Tells r e.process e.item e.what
 
-  -- the events of item t
-  abbrev events_at : ℕ → List Event
-  events_at t = event_of t (item r t) (outcome r t)
-
   one : (e : Event) → IsTrue e → All IsTrue (e ∷ [])
   one e h = All-cons IsTrue e [] h (All-nil IsTrue)
 
   -- what the event of an item tells is so
-  true_at : (t : ℕ) → t < length r.items → (x : Item) (o : Outcome) → item r (suc t) ≡ x → outcome r (suc t) ≡ o →
-      All IsTrue (event_of (suc t) x o)
-  true_at t lt (items.Step i) outcomes.Called e f = All-nil IsTrue
-  true_at t lt (items.Crash i) outcomes.Called e f = All-nil IsTrue
-  true_at t lt (items.Call i o) outcomes.Called e f = one (told i (suc t) (what.Call o)) (e, f)
-  true_at t lt x outcomes.Stepped e f = All-nil IsTrue
-  true_at t lt x (outcomes.Answered view) e f =
-      one (told (who x) (suc t) (what.Answer view))
-      (subst (λ (y : Item). Tells r (who y) (suc t) (what.Answer view)) e ((ends_are r fits t lt).0 view f))
-  true_at t lt x outcomes.Finished e f =
-      one (told (who x) (suc t) what.Done)
-      (subst (λ (y : Item). Tells r (who y) (suc t) what.Done) e ((ends_are r fits t lt).1 f))
-  true_at t lt x (outcomes.Trapped cause) e f = All-nil IsTrue
-  true_at t lt x outcomes.Crashed e f =
-      one (told (who x) (suc t) what.Crash) (subst (λ (y : Item). who (item r (suc t)) ≡ who y) e refl, f)
-  true_at t lt x (outcomes.Skipped reason) e f = All-nil IsTrue
+  true_call : (t : ℕ) (x : Item) → item r t ≡ x → outcome r t ≡ outcomes.Called →
+      All IsTrue (event_of t x outcomes.Called)
+  true_call t (items.Call i o) is comes = one (event i t (what.Call o)) (is, comes)
+  true_call t other is comes = All-nil IsTrue
+
+  true_at : (t : ℕ) → t < length r.items → (out : Outcome) → outcome r (suc t) ≡ out →
+      All IsTrue (event_of (suc t) (item r (suc t)) out)
+  true_at t lt outcomes.Called is = true_call (suc t) (item r (suc t)) refl is
+  true_at t lt (outcomes.Answered view) is =
+      one (event (who (item r (suc t))) (suc t) (what.Answer view)) ((ends_are r fits t lt).0 view is)
+  true_at t lt outcomes.Finished is = one (event (who (item r (suc t))) (suc t) what.Done) ((ends_are r fits t lt).1 is)
+  true_at t lt outcomes.Crashed is = one (event (who (item r (suc t))) (suc t) what.Crash) (refl, is)
+  true_at t lt other is = All-nil IsTrue
 
   -- nor is what those of the later items tell
   true_from : (t more : ℕ) → t + more ≡ length r.items → All IsTrue (events_from r t)
-  true_from t zero e = All-same IsTrue (events_from r t) [] (no_events r t (omega (arith, e))) (All-nil IsTrue)
+  true_from t zero e = rw (no_events r t (omega arith)) (All-nil IsTrue)
   true_from t (suc more) e =
-      let lt : t < length r.items = omega (arith, e) in
-      All-same IsTrue (events_from r t) (events_at (suc t) ++ events_from r (suc t)) (next_events r t lt)
-      (All-append IsTrue (events_at (suc t)) (events_from r (suc t))
-      (true_at t lt (item r (suc t)) (outcome r (suc t)) refl refl)
-      (true_from (suc t) more (omega (arith, e))))
-
-  true_each : All IsTrue (events_of r (length r.items))
-  true_each =
-      All-same IsTrue (events_of r (length r.items)) (events_from r 0) (all_events r)
-      (true_from 0 (length r.items) (omega arith))
-
-  -- an event of a later item is among them
-  among : (more k t : ℕ) (e : Event) → more + k ≡ t → t < length r.items →
-      Contains (events_at (suc t)) e → Contains (events_from r k) e
-  among zero k t e same lt has =
-      subst (λ (es : List Event). Contains es e) (sym (next_events r k (omega (arith, same, lt))))
-      (Contains-append_left (events_at (suc k)) (events_from r (suc k)) e
-      (subst (λ (m : ℕ). Contains (events_at (suc m)) e) (let here : t ≡ k = omega (arith, same) in here) has))
-  among (suc more) k t e same lt has =
-      subst (λ (es : List Event). Contains es e) (sym (next_events r k (omega (arith, same, lt))))
-      (Contains-append_right (events_at (suc k)) (events_from r (suc k)) e
-      (among more (suc k) t e (omega (arith, same)) lt has))
-
-  -- an event of an item is among all
-  among_all : (t : ℕ) (e : Event) → 0 < t → t ≤ length r.items → Contains (events_at t) e →
-      Contains (events_of r (length r.items)) e
-  among_all zero e some le has = absurd (omega (arith, some))
-  among_all (suc t) e some le has =
-      subst (λ (es : List Event). Contains es e) (sym (all_events r))
-      (among t 0 t e (omega arith) (omega (arith, le)) has)
-
-  -- the event of a call
-  call_at : (i c : ℕ) (o : Op) → item r c ≡ items.Call i o → outcome r c ≡ outcomes.Called →
-      Contains (events_at c) (told i c (what.Call o))
-  call_at i c o e f =
-      let event = told i c (what.Call o) in
-      subst (λ (x : Item). Contains (event_of c x (outcome r c)) event) (sym e)
-      (subst (λ (y : Outcome). Contains (event_of c (items.Call i o) y) event) (sym f) (alone event))
-
-  -- the event of an end
-  answer_at : (i t : ℕ) (view : List ℕ) → who (item r t) ≡ i → outcome r t ≡ outcomes.Answered view →
-      Contains (events_at t) (told i t (what.Answer view))
-  answer_at i t view e f =
-      subst (λ (j : ℕ). Contains (events_at t) (told j t (what.Answer view))) e
-      (let event = told (who (item r t)) t (what.Answer view) in
-      subst (λ (y : Outcome). Contains (event_of t (item r t) y) event) (sym f) (alone event))
-
-  done_at : (i t : ℕ) → who (item r t) ≡ i → outcome r t ≡ outcomes.Finished →
-      Contains (events_at t) (told i t what.Done)
-  done_at i t e f =
-      subst (λ (j : ℕ). Contains (events_at t) (told j t what.Done)) e
-      (let event = told (who (item r t)) t what.Done in
-      subst (λ (y : Outcome). Contains (event_of t (item r t) y) event) (sym f) (alone event))
-
-  -- the call of an update is told
-  update_called : (i word value c e : ℕ) → PendingUpdate r i word value c e →
-      Contains (events_of r (length r.items)) (told i c (what.Call (op.Update word value)))
-  update_called i word value c e h =
-      let order = h.order in let last = h.last in
-      among_all c (told i c (what.Call (op.Update word value))) h.first (omega (arith, order, last))
-      (call_at i c (op.Update word value) h.call h.called)
-
-  calls : (i c : ℕ) (end : Option ℕ) (a : Action) → TookPlace r i c end a →
-      Contains (events_of r (length r.items)) (told i c (what.Call (called_as a)))
-  calls i c (Some e) (Sets word value) h = update_called i word value c e h.0
-  calls i c None (Sets word value) h = update_called i word value c (length r.items) h.0
-  calls i c (Some e) (Sees view) h =
-      let scan = h.scan in let order = scan.order in let last = scan.last in
-      among_all c (told i c (what.Call op.Scan)) scan.first (omega (arith, order, last))
-      (call_at i c op.Scan scan.starts.0 scan.starts.1)
-  calls i c None (Sees view) h = absurd h
-
-  ends : (i c t : ℕ) (a : Action) → TookPlace r i c (Some t) a →
-      Contains (events_of r (length r.items)) (told i t (ends_as a))
-  ends i c t (Sets word value) h =
-      let before = h.1 in
-      among_all t (told i t what.Done) (omega (arith, before)) h.0.last (done_at i t h.2.0 h.2.1)
-  ends i c t (Sees view) h =
-      let before = h.order in
-      among_all t (told i t (what.Answer view)) (omega (arith, before)) h.scan.last
-      (answer_at i t view h.ends.0 h.ends.1)
+      rw (next_events r t (omega arith))
+      (All-append IsTrue (events_at r (suc t)) (events_from r (suc t))
+      (true_at t (omega arith) (outcome r (suc t)) refl) (true_from (suc t) more (omega arith)))
 
 pub tells_operations : EndsAreOfOperations → EventsTellOperations
 tells_operations ends_are r fits = record {
-  each = true_each ends_are r fits;
-  calls = λ o h. calls ends_are r fits o.process o.call o.end o.action h;
-  ends = λ o t h same.
-      ends ends_are r fits o.process o.call t o.action
-      (subst (λ (e : Option ℕ). TookPlace r o.process o.call e o.action) same h);
+  each = rw (all_events r) (true_from ends_are r fits 0 (length r.items) (omega arith));
+  calls = λ o h.
+      let call = (to_span r fits o.process o.call o.end o.action h).call in
+      among r o.call (event o.process o.call (what.Call (called_as o.action))) call.some call.within
+      (rw (call.outcome_is, call.item_is) (contains_head (event o.process o.call (what.Call (called_as o.action))) []));
+  ends = λ o t h ended.
+      let next : EndsNext r o.process o.call (Some t) o.action =
+      rw ended at (to_span r fits o.process o.call o.end o.action h).next in
+      let end = next.1.1 in end_told r o.process t o.action end.some end.within end.mine end.outcome_is;
 }

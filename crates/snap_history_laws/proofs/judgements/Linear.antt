@@ -4,9 +4,9 @@ use Rattle.std.proofs.lemmas.List.Elements.{All-weaker}
 use Rattle.snap_runs.specs.Linearization.{IsLinearization}
 use Rattle.snap_runs.specs.Operation.{IsOperation, Operation}
 use Rattle.snap_runs.specs.Run.{IsValidRun, Run}
-use Rattle.snap_history_laws.specs.events.EventLaws.{EventsTellOperations}
 use Rattle.snap_judge.specs.Linearizable.{IsLinearizationOf, IsOperationOf}
 use Rattle.snap_run_judge.specs.RunHistory.{history_of}
+use Rattle.snap_history_laws.specs.events.EventLaws.{EventsTellOperations}
 use Rattle.snap_history_laws.specs.judgements.RunLaws.{RunsAreToldByTheirHistories}
 use Rattle.snap_history_laws.proofs.judgements.Matching.{from_history, to_history}
 
@@ -15,7 +15,7 @@ module _ (tell : EventsTellOperations) (r : Run) (fits : IsValidRun r) (os : Lis
   of_history h = record {
     took_place = All-weaker (IsOperation r) (IsOperationOf (history_of r)) (to_history tell r fits) os h.took_place;
     once = h.once;
-    complete = λ o is ended. h.complete o (from_history tell r fits o is) ended;
+    complete = λ o is. h.complete o (from_history tell r fits o is);
     order = h.order;
     runs = h.runs;
   }
@@ -24,7 +24,7 @@ module _ (tell : EventsTellOperations) (r : Run) (fits : IsValidRun r) (os : Lis
   of_run h = record {
     took_place = All-weaker (IsOperationOf (history_of r)) (IsOperation r) (from_history tell r fits) os h.took_place;
     once = h.once;
-    complete = λ o is ended. h.complete o (to_history tell r fits o is) ended;
+    complete = λ o is. h.complete o (to_history tell r fits o is);
     order = h.order;
     runs = h.runs;
   }
@@ -33,8 +33,6 @@ pub runs_are_told : EventsTellOperations → RunsAreToldByTheirHistories
 runs_are_told tell r fits = record {
   operations = λ o. (to_history tell r fits o, from_history tell r fits o);
   linearizations = λ os. (of_history tell r fits os, of_run tell r fits os);
-  linearizable = (
-    λ h. (let l = h fits in (l.0, of_history tell r fits l.0 l.1)),
-    λ l valid. (l.0, of_run tell r fits l.0 l.1),
-  );
+  linearizable =
+      (λ h. ((h fits).0, of_history tell r fits (h fits).0 (h fits).1), λ l valid. (l.0, of_run tell r fits l.0 l.1));
 }

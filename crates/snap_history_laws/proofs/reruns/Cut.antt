@@ -1,7 +1,7 @@
 -- Where what is printed of a live run is cut: before the report stands the schedule.
-use Rattle.std.proofs.Common.{◌≡◌, ℕ, ◌<◌, ◌≤◌, ◌⊎◌, inl, inr, Bool, true, false, not, ◌&&◌, List, [], ◌∷◌, ◌++◌}
+use Rattle.std.proofs.Common.{◌≡◌, ℕ, ◌<◌, ◌≤◌, ◌⊎◌, inl, Bool, true, false, ◌&&◌, List, [], ◌∷◌, ◌++◌}
 use Rattle.std.proofs.Common.{append_assoc, length, map, nat_eq, ne_eqb, if◌then◌else◌}
-use Rattle.std.proofs.Common.{codes, refl, sym, ap, ◌∙◌, subst, arith}
+use Rattle.std.proofs.Common.{codes, refl, sym, ap, ◌∙◌, arith}
 use Rattle.std.proofs.lemmas.Bool.{and_parts}
 use Rattle.std.specs.List.{AllByRecursion, list_all}
 use Rattle.snap_semantics.specs.Layout.{depth_behind, gap, layout, line_text, line_to, lines_text, parts_before}
@@ -12,27 +12,20 @@ use Rattle.snap_text.proofs.Before.{bare_plain, is_bare, is_plain}
 use Rattle.snap_text.proofs.Digits.{digit_within}
 use Rattle.snap_text.proofs.Ends.{line_ends}
 use Rattle.snap_text.proofs.Printed.{joined_bare, space, space_bare, token_bare}
-use Rattle.snap_input.specs.Parts.{ends_part, full_lines, onto_part, parts_of_lines}
+use Rattle.snap_input.specs.Parts.{ends_part, full_lines, parts_of_lines}
 use Rattle.snap_history_laws.specs.reruns.Printed.{before_report, begins_report, lines_before_report}
 
 -- a line before others
-feed_by : (b : ℕ) (bytes : List ℕ) (v : Bool) → not v ≡ true →
-    (if v then (b ∷ []) ∷ full_lines bytes else onto_line b (full_lines bytes)) ≡ onto_line b (full_lines bytes)
-feed_by b bytes true e = absurd cc
-feed_by b bytes false e = refl
-
 line_before : (line rest : List ℕ) → list_all is_plain line ≡ true →
     full_lines (line ++ 10 ∷ rest) ≡ (line ++ 10 ∷ []) ∷ full_lines rest
 line_before [] rest h = refl
 line_before (b ∷ line) rest h =
     let parts = and_parts (is_plain b) (list_all is_plain line) h in
-    feed_by b (line ++ 10 ∷ rest) (nat_eq b 10) parts.0 ∙ ap (onto_line b) (line_before line rest parts.1)
+    let more = line_before line rest parts.1 in grind arith
 
 -- no line feed stands in a line that is laid out
 gap_by : (b c : Bool) → (if b then (if c then codes " " else []) else []) ≡ space (b && c)
-gap_by true true = refl
-gap_by true false = refl
-gap_by false c = refl
+gap_by b c = grind arith
 
 laid_bare : (depth : ℕ) (t : Token) (us : List Token) → AllByRecursion IsSound us →
     list_all is_bare (layout [] depth t us) ≡ true
@@ -88,59 +81,28 @@ longer_begins xs ys h =
     record { byte = h.byte; rest = h.rest ++ ys; is = ap (λ (l : List ℕ). l ++ ys) h.is; other = h.other }
 
 -- a digit or an `s` begins no report, and ends no part
-byte_is_not : (b c : ℕ) → ((48 ≤ b) × (b ≤ 57)) ⊎ (b ≡ 115) → ((48 ≤ c) × (c ≤ 57) → ⊥) →
-    (c ≡ 115 → ⊥) → nat_eq b c ≡ false
-byte_is_not b c h low high = ne_eqb b c (λ e. elim h [
-  | inl digit ↦ low (subst (λ k. (48 ≤ k) × (k ≤ 57)) e digit)
-  | inr letter ↦ high (sym e ∙ letter)
-])
-
-no_report_by : (b : ℕ) (bs : List ℕ) → nat_eq b 114 ≡ false → begins_report (b ∷ bs) ≡ false
-no_report_by b bs e = rw e refl
-
 no_report : (line : List ℕ) → BeginsSo line → begins_report line ≡ false
 no_report line h =
-    subst (λ (l : List ℕ). begins_report l ≡ false) (sym h.is)
-    (no_report_by h.byte h.rest
-    (byte_is_not h.byte 114 h.other (λ k. let le = k.1 in omega (arith, le)) (λ e. omega (arith, e))))
-
-no_end_by : (b : ℕ) (bs : List ℕ) → nat_eq b 37 ≡ false → ends_part (b ∷ bs) ≡ false
-no_end_by b bs e = rw e refl
+    let other : nat_eq h.byte 114 ≡ false = ne_eqb h.byte 114 (λ e. grind arith) in rw (h.is, other)
 
 no_end : (line : List ℕ) → BeginsSo line → ends_part line ≡ false
 no_end line h =
-    subst (λ (l : List ℕ). ends_part l ≡ false) (sym h.is)
-    (no_end_by h.byte h.rest
-    (byte_is_not h.byte 37 h.other (λ k. let le = k.0 in omega (arith, le)) (λ e. omega (arith, e))))
+    let other : nat_eq h.byte 37 ≡ false = ne_eqb h.byte 37 (λ e. grind arith) in rw (h.is, other)
 
 -- lines that begin so stand before a report
-passed_by : (line : List ℕ) (lines : List (List ℕ)) (v : Bool) → v ≡ false →
-    (if v then [] else line ++ lines_before_report lines) ≡ line ++ lines_before_report lines
-passed_by line lines true e = absurd cc
-passed_by line lines false e = refl
-
 pub stand_before : (ls : List (List Token)) (lines : List (List ℕ)) →
     AllByRecursion (λ ts. BeginsSo (line_text ts)) ls →
     lines_before_report (map line_text ls ++ lines) ≡ lines_text ls ++ lines_before_report lines
 stand_before [] lines h = refl
 stand_before (ts ∷ ls) lines h =
-    passed_by (line_text ts) (map line_text ls ++ lines) (begins_report (line_text ts)) (no_report (line_text ts) h.0)
-    ∙ ap (λ (l : List ℕ). line_text ts ++ l) (stand_before ls lines h.1)
-    ∙ sym (append_assoc (line_text ts) (lines_text ls) (lines_before_report lines))
+    rw (no_report (line_text ts) h.0, stand_before ls lines h.1)
+    (sym (append_assoc (line_text ts) (lines_text ls) (lines_before_report lines)))
 
 -- lines are one part
-part_by : (line : List ℕ) (lines : List (List ℕ)) (v : Bool) → v ≡ false →
-    (if v then [] ∷ parts_of_lines lines else onto_part line (parts_of_lines lines))
-    ≡ onto_part line (parts_of_lines lines)
-part_by line lines true e = absurd cc
-part_by line lines false e = refl
-
 pub one_part : (ls : List (List Token)) → AllByRecursion (λ ts. BeginsSo (line_text ts)) ls →
     parts_of_lines (map line_text ls) ≡ lines_text ls ∷ []
 one_part [] h = refl
-one_part (ts ∷ ls) h =
-    part_by (line_text ts) (map line_text ls) (ends_part (line_text ts)) (no_end (line_text ts) h.0)
-    ∙ ap (onto_part (line_text ts)) (one_part ls h.1)
+one_part (ts ∷ ls) h = rw (no_end (line_text ts) h.0, one_part ls h.1)
 
 -- nothing of a report stands before it
 report_alone : (rest : List (List ℕ)) → lines_before_report

@@ -1,17 +1,16 @@
 -- The text of a schedule has at most 12 + 52 bytes for each item (`schedule_short`).
-use Rattle.std.proofs.Common.{ℕ, suc, ◌+◌, ◌*◌, ◌<◌, ◌≤◌, ◌^◌, Bool, true, false, List, [], ◌∷◌, ◌++◌, length, nat_eq}
-use Rattle.std.proofs.Common.{if◌then◌else◌, codes, decimal, arith}
+use Rattle.std.proofs.Common.{ℕ, suc, ◌+◌, ◌*◌, ◌<◌, ◌≤◌, ◌^◌, Bool, true, false, List, [], ◌∷◌, length, nat_eq}
+use Rattle.std.proofs.Common.{if◌then◌else◌, decimal, arith}
 use Rattle.std.proofs.lemmas.Fmt.{length-decimal-le}
 use Rattle.std.proofs.lemmas.List.{length-append}
 use Rattle.std.specs.List.{AllByRecursion}
 use Rattle.snap_words.specs.Shape.{max_count}
 use Rattle.snap_semantics.specs.declared.process.Item.{Item}
-use Rattle.snap_semantics.specs.declared.process.Item.TheVariants as item
 use Rattle.snap_semantics.specs.declared.process.Op.TheVariants as op
 use Rattle.snap_semantics.specs.declared.text.Symbol.TheVariants as symbol
 use Rattle.snap_semantics.specs.Layout.{line_text}
 use Rattle.snap_semantics.specs.Schedule.{Schedule}
-use Rattle.snap_semantics.specs.ScheduleForms.{ItemForm, Steps, Calls, Crashes, spelled_form, spelled_shape}
+use Rattle.snap_semantics.specs.ScheduleForms.{ItemForm, Steps, Calls, Crashes, spelled_form}
 use Rattle.snap_semantics.specs.ScheduleText.{IsSchedule, forms_of, forms_text, item_onto, schedule_text}
 use Rattle.snap_semantics.specs.Token.{Number, Sign}
 use Rattle.snap_history_laws.proofs.reruns.Schedules.{IsWithin, forms_within}
@@ -32,68 +31,32 @@ module _ (n most : ℕ) (small : n ≤ max_count) (few : most ≤ 1000000) where
 
   steps_short : (i count : ℕ) (v : Bool) → i ≤ n → count ≤ most →
       length (line_text (if v then Number i ∷ [] else Number i ∷ Sign symbol.Star ∷ Number count ∷ [])) ≤ 52
-  steps_short i count true le lt =
-      let process = of_process i le in
-      let all = length-append (decimal i) (codes "\n") in omega (arith, process, all)
+  steps_short i count true le lt = simp length-append (omega (arith, of_process i le))
   steps_short i count false le lt =
-      let process = of_process i le in
-      let times = counted count (omega (arith, lt, few)) in
-      let behind = length-append (decimal count) (codes "\n") in
-      let all = length-append (decimal i) (codes "*" ++ (decimal count ++ codes "\n")) in
-      omega (arith, process, times, behind, all)
+      simp length-append (omega (arith, of_process i le, counted count (omega arith)))
 
   form_short : (f : ItemForm) → IsWithin n most f → length (line_text (spelled_form f)) ≤ 52
   form_short (Steps i count) h = steps_short i count (nat_eq count 1) h.0 h.1
-  form_short (Calls i op.Scan) h =
-      let process = of_process i h.0 in
-      let all = length-append (decimal i) (codes " scan\n") in omega (arith, process, all)
+  form_short (Calls i op.Scan) h = simp length-append (omega (arith, of_process i h.0))
   form_short (Calls i (op.Update word value)) h =
-      let process = of_process i h.0 in
-      let first = wide word h.1.0 in
-      let second = wide value h.1.1 in
-      let last = length-append (decimal value) (codes "\n") in
-      let behind = length-append (decimal word) (codes " " ++ (decimal value ++ codes "\n")) in
-      let all =
-      length-append (decimal i) (codes " update " ++ (decimal word ++ (codes " " ++ (decimal value ++ codes "\n")))) in
-      omega (arith, process, first, second, last, behind, all)
-  form_short (Crashes i) h =
-      let process = of_process i h in
-      let all = length-append (decimal i) (codes " crash\n") in omega (arith, process, all)
+      simp length-append (omega (arith, of_process i h.0, wide word h.1.0, wide value h.1.1))
+  form_short (Crashes i) h = simp length-append (omega (arith, of_process i h))
 
   forms_short : (fs : List ItemForm) → AllByRecursion (IsWithin n most) fs → length (forms_text fs) ≤ 52 * length fs
   forms_short [] h = omega arith
   forms_short (f ∷ fs) h =
-      let one = form_short f h.0 in
-      let rest = forms_short fs h.1 in
-      let all = length-append (line_text (spelled_form f)) (forms_text fs) in omega (arith, one, rest, all)
+      omega (arith, form_short f h.0, forms_short fs h.1, length-append (line_text (spelled_form f)) (forms_text fs))
 
 -- there are no more forms than items
-step_by : (i k count : ℕ) (fs : List ItemForm) (v : Bool) →
-    length (if v then Steps k (suc count) ∷ fs else Steps i 1 ∷ Steps k count ∷ fs) ≤ suc (length (Steps k count ∷ fs))
-step_by i k count fs true = omega arith
-step_by i k count fs false = omega arith
-
 one_form : (x : Item) (fs : List ItemForm) → length (item_onto x fs) ≤ suc (length fs)
-one_form (item.Step i) [] = omega arith
-one_form (item.Step i) (Steps k count ∷ fs) = step_by i k count fs (nat_eq i k)
-one_form (item.Step i) (Calls k o ∷ fs) = omega arith
-one_form (item.Step i) (Crashes k ∷ fs) = omega arith
-one_form (item.Call i o) fs = omega arith
-one_form (item.Crash i) fs = omega arith
+one_form x fs = grind arith
 
 no_more : (xs : List Item) → length (forms_of xs) ≤ length xs
 no_more [] = omega arith
-no_more (x ∷ xs) =
-    let first = one_form x (forms_of xs) in
-    let rest = no_more xs in omega (arith, first, rest)
+no_more (x ∷ xs) = omega (arith, one_form x (forms_of xs), no_more xs)
 
 pub schedule_short : (s : Schedule) → IsSchedule s → length (schedule_text s) ≤ 12 + 52 * length s.items
 schedule_short s h =
-    let n = short s.shape.n h.shape.0.1 in
-    let w = short s.shape.w h.shape.1.1 in
-    let last = length-append (decimal s.shape.w) (codes "\n") in
-    let behind = length-append (decimal s.shape.n) (codes " " ++ (decimal s.shape.w ++ codes "\n")) in
-    let all = length-append (line_text (spelled_shape s.shape)) (forms_text (forms_of s.items)) in
     let forms = forms_short s.shape.n (length s.items) h.shape.0.1 h.few (forms_of s.items)
     (forms_within s.shape.n s.items h.processes h.fits) in
-    let no = no_more s.items in omega (arith, n, w, last, behind, all, forms, no)
+    simp length-append (omega (arith, short s.shape.n h.shape.0.1, short s.shape.w h.shape.1.1, no_more s.items))

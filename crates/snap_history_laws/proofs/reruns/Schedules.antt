@@ -6,14 +6,13 @@ use Rattle.std.proofs.lemmas.List.{append-nil}
 use Rattle.std.specs.List.{AllByRecursion}
 use Rattle.snap_words.specs.Shape.{IsOneOf, max_count}
 use Rattle.snap_semantics.specs.declared.process.Item.{Item}
-use Rattle.snap_semantics.specs.declared.process.Item.TheVariants as item
 use Rattle.snap_semantics.specs.declared.process.Op.TheVariants as op
 use Rattle.snap_semantics.specs.declared.text.Symbol.TheVariants as symbol
 use Rattle.snap_semantics.specs.Layout.{layout, line_text}
 use Rattle.snap_semantics.specs.Schedule.{Schedule}
 use Rattle.snap_semantics.specs.ScheduleForms.{ItemForm, Steps, Calls, Crashes, spelled_form, spelled_shape}
 use Rattle.snap_semantics.specs.ScheduleText.{FitsItem, FitsWords, IsSchedule, forms_of}
-use Rattle.snap_semantics.specs.ScheduleText.{item_onto, schedule_text, step_onto}
+use Rattle.snap_semantics.specs.ScheduleText.{item_onto, schedule_text}
 use Rattle.snap_semantics.specs.Table.{who}
 use Rattle.snap_semantics.specs.Token.{Identifier, Number, Sign, Token}
 use Rattle.snap_text.specs.Tokens.{IsSound}
@@ -30,56 +29,26 @@ IsWithin n most (Calls i o) = (i ≤ n) × FitsWords o
 IsWithin n most (Crashes i) = i ≤ n
 
 still : (n most : ℕ) (f : ItemForm) → IsWithin n most f → IsWithin n (suc most) f
-still n most (Steps i count) h = let le = h.1 in (h.0, omega (arith, le))
-still n most (Calls i o) h = h
-still n most (Crashes i) h = h
+still n most f h = grind arith
 
 all_still : (n most : ℕ) (fs : List ItemForm) → AllByRecursion (IsWithin n most) fs →
     AllByRecursion (IsWithin n (suc most)) fs
 all_still n most [] h = tt
 all_still n most (f ∷ fs) h = (still n most f h.0, all_still n most fs h.1)
 
-step_by : (n most i k count : ℕ) (fs : List ItemForm) (v : Bool) → i ≤ n →
-    AllByRecursion (IsWithin n most) (Steps k count ∷ fs) →
-    AllByRecursion (IsWithin n (suc most)) (if v then Steps k (suc count) ∷ fs else Steps i 1 ∷ Steps k count ∷ fs)
-step_by n most i k count fs true le h = let few = h.0.1 in ((h.0.0, omega (arith, few)), all_still n most fs h.1)
-step_by n most i k count fs false le h = ((le, omega arith), all_still n most (Steps k count ∷ fs) h)
-
-step_within : (n most i : ℕ) (fs : List ItemForm) → i ≤ n → AllByRecursion (IsWithin n most) fs →
-    AllByRecursion (IsWithin n (suc most)) (step_onto i fs)
-step_within n most i [] le h = ((le, omega arith), tt)
-step_within n most i (Steps k count ∷ fs) le h = step_by n most i k count fs (nat_eq i k) le h
-step_within n most i (Calls k o ∷ fs) le h = ((le, omega arith), all_still n most (Calls k o ∷ fs) h)
-step_within n most i (Crashes k ∷ fs) le h = ((le, omega arith), all_still n most (Crashes k ∷ fs) h)
-
 item_within : (n most : ℕ) (x : Item) (fs : List ItemForm) → who x ≤ n → FitsItem x →
     AllByRecursion (IsWithin n most) fs → AllByRecursion (IsWithin n (suc most)) (item_onto x fs)
-item_within n most (item.Step i) fs le fits h = step_within n most i fs le h
-item_within n most (item.Call i o) fs le fits h = ((le, fits), all_still n most fs h)
-item_within n most (item.Crash i) fs le fits h = (le, all_still n most fs h)
+item_within n most x fs le fits h = let more = all_still n most fs h in grind arith
 
 pub forms_within : (n : ℕ) (xs : List Item) → AllByRecursion (λ x. IsOneOf n (who x)) xs →
     AllByRecursion FitsItem xs → AllByRecursion (IsWithin n (length xs)) (forms_of xs)
 forms_within n [] h g = tt
 forms_within n (x ∷ xs) h g = item_within n (length xs) x (forms_of xs) h.0.1 g.0 (forms_within n xs h.1 g.1)
 
--- each of their tokens can stand in a text
-steps_sound : (i count : ℕ) (v : Bool) → i < 2 ^ 64 → count < 2 ^ 64 →
-    AllByRecursion IsSound (if v then Number i ∷ [] else Number i ∷ Sign symbol.Star ∷ Number count ∷ [])
-steps_sound i count true h g = (h, tt)
-steps_sound i count false h g = (h, (tt, (g, tt)))
-
 module _ (n most : ℕ) (small : n ≤ max_count) (few : most ≤ 1000000) where
+  -- each of their tokens can stand in a text
   form_sound : (f : ItemForm) → IsWithin n most f → AllByRecursion IsSound (spelled_form f)
-  form_sound (Steps i count) h =
-      let le = h.0 in
-      let short = h.1 in
-      steps_sound i count (nat_eq count 1) (omega (arith, le, small)) (omega (arith, short, few))
-  form_sound (Calls i op.Scan) h = let le = h.0 in (omega (arith, le, small), ((omega arith, refl), tt))
-  form_sound (Calls i (op.Update word value)) h =
-      let le = h.0 in
-      (omega (arith, le, small), ((omega arith, refl), (h.1.0, (h.1.1, tt))))
-  form_sound (Crashes i) h = (omega (arith, h, small), ((omega arith, refl), tt))
+  form_sound f h = grind arith
 
   -- the lines of a schedule begin with their process
   process_begins : (i : ℕ) (ts : List Token) → i ≤ n → BeginsSo (line_text (Number i ∷ ts))

@@ -1,19 +1,19 @@
 -- The numbers of scripts that were read have 64 bits.
-use Rattle.std.proofs.Common.{◌≡◌, ℕ, zero, suc, ◌+◌, Bool, true, false, ◌&&◌, List, [], ◌∷◌, ◌++◌, length, Option}
-use Rattle.std.proofs.Common.{Some, None, Result, Ok, Err, nat_eq, nat_le, nat_lt, if◌then◌else◌, IfOk, IfSome, subst}
+use Rattle.std.proofs.Common.{◌≡◌, ℕ, zero, suc, ◌+◌, Bool, List, [], ◌∷◌, ◌++◌, Result, Ok, Err, nat_eq}
+use Rattle.std.proofs.Common.{Option, Some, None, if◌then◌else◌, IfOk, arith}
 use Rattle.std.specs.List.{AllByRecursion}
 use Rattle.snap_words.specs.Shape.{Counts}
 use Rattle.snap_semantics.specs.declared.process.Op.{Op}
 use Rattle.snap_semantics.specs.declared.refusal.ScheduleRefusal.{ScheduleRefusal}
 use Rattle.snap_semantics.specs.declared.refusal.ScheduleRefusal.TheVariants as refusal
 use Rattle.snap_semantics.specs.Answers.{◌>>=◌}
-use Rattle.snap_semantics.specs.Rules.{form_or, found_or}
+use Rattle.snap_semantics.specs.Rules.{form_or}
 use Rattle.snap_semantics.specs.ScheduleForms.{shape_form}
 use Rattle.snap_semantics.specs.ScheduleText.{FitsWords}
 use Rattle.snap_semantics.specs.Token.{TextLine, Token, text_lines}
 use Rattle.snap_text.proofs.Sound.{AreSound, lines_sound}
-use Rattle.snap_sched.specs.ScriptForms.{ops_of, script_form, script_process}
-use Rattle.snap_sched.specs.ScriptText.{Script, Scripts, admitted_script, crashes_again, script_line, script_lines}
+use Rattle.snap_sched.specs.ScriptForms.{ops_of, script_form}
+use Rattle.snap_sched.specs.ScriptText.{Script, Scripts, admitted_script, script_line, script_lines}
 use Rattle.snap_sched.specs.ScriptText.{scripts_from, scripts_of, scripts_of_lines}
 use Rattle.snap_sched.specs.declared.script_forms.ScriptForm.{ScriptForm}
 use Rattle.snap_sched.specs.declared.script_forms.ScriptForm.TheVariants as script
@@ -26,30 +26,16 @@ answered_bind P Q (Ok x) f h g = g x h
 answered_bind P Q (Err e) f h g = tt
 
 -- the form of a line
-found_fits : (e : ScheduleRefusal) (o : Option ScriptForm) → IfSome o FitsForm → IfOk (found_or e o) FitsForm
-found_fits e None h = tt
-found_fits e (Some x) h = h
-
 tokens_fit : (e : ScheduleRefusal) (o : Option (List Token)) → AreSound o → IfOk (form_or e script_form o) FitsForm
 tokens_fit e None h = tt
-tokens_fit e (Some ts) h = found_fits e (script_form ts) (form_fits ts h)
-
-admitted_by : (e d : ScheduleRefusal) (form : ScriptForm) (again there : Bool) → FitsForm form →
-    IfOk (let r : Result ScriptForm ScheduleRefusal = if again then Err e else if there then Ok form else Err d in r)
-    FitsForm
-admitted_by e d form true there h = tt
-admitted_by e d form false true h = h
-admitted_by e d form false false h = tt
+tokens_fit e (Some ts) h = let fits = form_fits ts h in grind arith
 
 line_fits : (n : ℕ) (before : List ScriptForm) (line : TextLine) → AreSound line.tokens →
     IfOk (script_line n before line) FitsForm
 line_fits n before line h =
     answered_bind FitsForm FitsForm (form_or (refusal.BadItem line.number) script_form line.tokens)
-    (admitted_script n before line.number)
-    (tokens_fit (refusal.BadItem line.number) line.tokens h)
-    (λ form fits.
-    admitted_by (refusal.BadItem line.number) (refusal.NoSuchProcess line.number) form (crashes_again before form)
-    (nat_le 1 (script_process form) && nat_le (script_process form) n) fits)
+    (admitted_script n before line.number) (tokens_fit (refusal.BadItem line.number) line.tokens h)
+    (λ form fits. grind arith)
 
 one_more : (before : List ScriptForm) (form : ScriptForm) → AllByRecursion FitsForm before → FitsForm form →
     AllByRecursion FitsForm (before ++ form ∷ [])
@@ -69,15 +55,13 @@ lines_fit n before (line ∷ lines) h g =
 abbrev pub FitsScript : Script → Type 0
 FitsScript s = AllByRecursion FitsWords s.operations
 
-call_by : (p i : ℕ) (o : Op) (forms : List ScriptForm) (b : Bool) →
-    FitsWords o → AllByRecursion FitsWords (ops_of p forms) →
-    AllByRecursion FitsWords (if b then o ∷ ops_of p forms else ops_of p forms)
-call_by p i o forms true h g = (h, g)
-call_by p i o forms false h g = g
+call_by : (o : Op) (os : List Op) (b : Bool) → FitsWords o → AllByRecursion FitsWords os →
+    AllByRecursion FitsWords (if b then o ∷ os else os)
+call_by o os b h g = grind arith
 
 ops_fit : (p : ℕ) (forms : List ScriptForm) → AllByRecursion FitsForm forms → AllByRecursion FitsWords (ops_of p forms)
 ops_fit p [] h = tt
-ops_fit p (script.Call i o ∷ forms) h = call_by p i o forms (nat_eq i p) h.0 (ops_fit p forms h.1)
+ops_fit p (script.Call i o ∷ forms) h = call_by o (ops_of p forms) (nat_eq i p) h.0 (ops_fit p forms h.1)
 ops_fit p (script.Crash i turn ∷ forms) h = ops_fit p forms h.1
 
 from_fit : (forms : List ScriptForm) (i count : ℕ) → AllByRecursion FitsForm forms →
@@ -85,28 +69,15 @@ from_fit : (forms : List ScriptForm) (i count : ℕ) → AllByRecursion FitsForm
 from_fit forms i zero h = tt
 from_fit forms i (suc count) h = (ops_fit i forms h, from_fit forms (i + 1) count h)
 
-any : {A E : Type 0} (r : Result A E) → IfOk r (λ x. Unit {0})
-any (Ok x) = tt
-any (Err e) = tt
-
 all_fit : (lines : List TextLine) → AllByRecursion (λ line. AreSound line.tokens) lines →
     IfOk (scripts_of_lines lines) (λ s. AllByRecursion FitsScript s.scripts)
 all_fit [] h = tt
 all_fit (line ∷ lines) h =
     answered_bind (λ (shape : Counts). Unit {0}) (λ (s : Scripts). AllByRecursion FitsScript s.scripts)
-    (form_or refusal.BadShape shape_form line.tokens) _
-    (any (form_or refusal.BadShape shape_form line.tokens))
+    (form_or refusal.BadShape shape_form line.tokens) _ (grind arith)
     (λ shape some. answered_bind (AllByRecursion FitsForm) (λ (s : Scripts). AllByRecursion FitsScript s.scripts)
     (script_lines shape.n [] lines) _
     (lines_fit shape.n [] lines tt h.1) (λ forms fit. from_fit forms 1 shape.n fit))
 
-within : (b : Bool) (r : Result Scripts ScheduleRefusal) → IfOk r (λ s. AllByRecursion FitsScript s.scripts) →
-    IfOk (if b then Err refusal.TooLong else r) (λ s. AllByRecursion FitsScript s.scripts)
-within true r h = tt
-within false r h = h
-
 pub scripts_fit : (text : List ℕ) (s : Scripts) → scripts_of text ≡ Ok s → AllByRecursion FitsScript s.scripts
-scripts_fit text s e =
-    subst (λ (r : Result Scripts ScheduleRefusal). IfOk r (λ x. AllByRecursion FitsScript x.scripts)) e
-    (within (nat_lt 4194304 (length text)) (scripts_of_lines (text_lines text))
-    (all_fit (text_lines text) (lines_sound text)))
+scripts_fit text s e = grind (arith, all_fit (text_lines text) (lines_sound text))

@@ -8,7 +8,4 @@ returns-clause-nothing c = λ g.
     (c.shipped_runs_are_seen_linearizable.ensures g)
 
 pub returns-clause-hunts : goal.returns-clause-hunts
-returns-clause-hunts c = λ g.
-    hunts_find_none g
-    (finds_nothing c.steps_are_of_operations.ensures g (c.shipped_runs_keep_promises.ensures g)
-    (c.shipped_runs_are_seen_linearizable.ensures g))
+returns-clause-hunts c = λ g. hunts_find_none g (returns-clause-nothing c g)

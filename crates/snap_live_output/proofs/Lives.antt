@@ -1,6 +1,6 @@
 -- The text that is written of a live run in which all workers played their scripts is one that may be written
 -- (`IsGatedText`).
-use Rattle.std.proofs.Common.{◌≡◌, ℕ, ◌≤◌, Bool, List, length, ◌∙◌, ap, subst}
+use Rattle.std.proofs.Common.{◌≡◌, ℕ, ◌≤◌, Bool, List, length, ◌∙◌, ap}
 use Rattle.snap_semantics.specs.Source.{Source}
 use Rattle.snap_sched.specs.ScriptText.{AreScripts, Scripts}
 use Rattle.snap_runs.specs.Run.{IsValidRun, Run}
@@ -18,20 +18,13 @@ pub live_output : (may : ℕ → ℕ → Bool → Type 0) (g : Setup) (limit : �
     IsValidRun kept → length kept.items ≤ 1000000 → text ≡ history_text kept →
     told ≡ uncalled_text (uncalled_calls g kept.items) → IsGatedOutput may g limit text told
 live_output may g limit l s kept turns text told is_source are_scripts there live fits short written tells =
-    let of_source : IsLive may
-    (let b : Setting = record { source = g.source; shape = s.shape } in b) s.scripts limit kept turns =
-    subst (λ (x : Source). IsLive may
-    (let b : Setting = record { source = x; shape = s.shape } in b) s.scripts limit kept turns) is_source live in
-    let of_setup : IsLive may (setting g) g.scripts.scripts limit kept turns =
-    subst (λ (x : Scripts).
-    IsLive may (let b : Setting = record { source = g.source; shape = x.shape } in b) x.scripts limit kept turns)
-    are_scripts of_source in
+    let of_setup : IsLive may (setting g) g.scripts.scripts limit kept turns = rw (← is_source, ← are_scripts) live in
     let same : kept ≡ run_of (setting g) kept.items = ap (λ (b : Setting). run_of b kept.items) of_setup.of_base in (
       record {
         live = record {
           items = kept.items;
           there = there;
-          fits = subst (λ (r : Run). IsValidRun r) same fits;
+          fits = rw (← same) fits;
           short = short;
           plays = λ k below. (of_setup.played k below).plays;
           few = λ k below. (of_setup.played k below).few;

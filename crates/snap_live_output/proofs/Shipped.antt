@@ -1,6 +1,6 @@
 -- A live run of U, B or M writes the history of a run of that listing, which keeps its promises
 -- (`LiveRunsAreSnapshots`).
-use Rattle.std.proofs.Common.{◌≡◌, ℕ, ◌≤◌, true, List, Ok, length, nat_lt, refl, sym, ap, subst, arith}
+use Rattle.std.proofs.Common.{◌≡◌, ℕ, ◌≤◌, true, List, Ok, length, nat_lt, refl, sym, subst, arith}
 use Rattle.snap_words.specs.Kind.{fits}
 use Rattle.snap_words.specs.declared.kind.KindTag.{KindTag}
 use Rattle.snap_words.specs.declared.kind.KindTag.TheVariants as kind
@@ -16,7 +16,7 @@ use Rattle.snap_shipped.specs.Shipped.{shipped}
 use Rattle.snap_input.specs.Parts.{part, parts_of, max_input}
 use Rattle.snap_tasks.specs.declared.subject.Subject.{Subject}
 use Rattle.snap_input.specs.Input.{checked_parts, listing_for, parted, texts_for}
-use Rattle.snap_input.proofs.Answered.{both, passed, same_answer, within}
+use Rattle.snap_input.proofs.Answered.{both, passed, within}
 use Rattle.snap_live.specs.Turns.{run_of}
 use Rattle.snap_live_output.specs.LiveOutput.{Setup, fitting, scripts_for, setting, setup_for, setup_of, setup_text}
 use Rattle.snap_live_output.specs.LiveRuns.{LiveRunsAreSnapshots}
@@ -27,7 +27,7 @@ unfolding scripts_for
 fits_listing l text s e =
     let read = both (refused_as refusal.Schedule (scripts_of text)) (fitting l) s e in
     let fit = passed (fits l.kind read.0.shape) (refusal.Words BadShape) read.0 s read.2 in
-    subst (λ (x : Scripts). fits l.kind x.shape ≡ true) fit.1 fit.0
+    rw (← fit.1) fit.0
 
 -- what is played is the listing, and scripts that fit it
 plays_listing : (l : Source) (texts : List (List ℕ)) (g : Setup) → setup_text l texts ≡ Ok g →
@@ -36,10 +36,8 @@ unfolding setup_text
 plays_listing l texts g e =
     let read = both (scripts_for l (part 0 texts)) _ g e in
     let made : Setup = record { source = l; scripts = read.0 } in
-    let is : g ≡ made = same_answer (Ok made) made g refl read.2 in (
-      ap (λ (x : Setup). x.source) is,
-      subst (λ (x : Setup). fits l.kind x.scripts.shape ≡ true) (sym is) (fits_listing l (part 0 texts) read.0 read.1),
-    )
+    let is : g ≡ made = cc in
+    rw is (refl, fits_listing l (part 0 texts) read.0 read.1)
 
 -- of an input whose listing is this
 plays : (s : Subject) (l : Source) (input : List ℕ) (g : Setup) → listing_for s (parts_of input) ≡ Ok l →
@@ -49,15 +47,13 @@ plays s l input g is e =
     let short = within (nat_lt max_input (length input)) refusal.InputTooLong (setup_for s (parts_of input)) g e in
     let counted = both (checked_parts s 1 (parts_of input)) _ g short in
     let found = both (listing_for s (parts_of input)) _ g counted.2 in
-    let same : found.0 ≡ l = same_answer (listing_for s (parts_of input)) l found.0 is found.1 in
-    subst (λ (m : Source). (g.source ≡ m) × (fits m.kind g.scripts.shape ≡ true)) same
-    (plays_listing found.0 (texts_for s (parts_of input)) g found.2)
+    let same : l ≡ found.0 = cc in
+    rw same (plays_listing found.0 (texts_for s (parts_of input)) g found.2)
 
 -- a live run has fewer items than there are sequence numbers
 suffices : (k : KindTag) (items : List Item) → length items ≤ 1000000 → NumbersSuffice k items
 suffices kind.Seq items short = omega (arith, short)
-suffices kind.Bits items short = tt
-suffices kind.Multi items short = tt
+suffices _ items short = tt
 
 pub live_runs : ((k : KindTag) → RunsKeepPromises k) → LiveRunsAreSnapshots
 live_runs kept k s limit input text listing h =

@@ -6,7 +6,7 @@ use Rattle.snap_words.specs.Shape.{Counts}
 use Rattle.snap_semantics.specs.Report.{op_text}
 use Rattle.snap_semantics.specs.Table.{call_skip}
 use Rattle.snap_semantics.specs.declared.process.Item.{Item}
-use Rattle.snap_semantics.specs.declared.process.Item.TheVariants.{Step, Call, Crash}
+use Rattle.snap_semantics.specs.declared.process.Item.TheVariants.{Call}
 use Rattle.snap_semantics.specs.declared.process.Op.{Op}
 use Rattle.snap_sched.specs.ScriptText.{Script}
 use Rattle.snap_report.specs.OutcomeText.{reason_text}
@@ -25,9 +25,8 @@ listed (Some call) later = call ∷ later
 
 -- the call of an item, where it calls nothing
 abbrev pub uncalled_item : KindTag → Counts → Item → Option UncalledCall
-uncalled_item k shape (Step i) = None
 uncalled_item k shape (Call i o) = uncalled k shape i o
-uncalled_item k shape (Crash i) = None
+uncalled_item k shape _ = None
 
 -- the calls that items of a run skipped, in order
 abbrev pub skipped_calls : KindTag → Counts → List Item → List UncalledCall

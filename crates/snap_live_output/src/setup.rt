@@ -1,10 +1,10 @@
 //! `Setup`: what a live run plays, which is a listing and a script for each process; and how an
 //! input is read as one.
 ghost use Rattle.std.specs.Prelude.{◌≡◌, ◌<◌, ◌≤◌, Err, length, map};
-ghost use Rattle.snap_semantics.specs.Answers.{Answers, refused_as};
+ghost use Rattle.snap_semantics.specs.Answers.{Answers};
 ghost use Rattle.snap_semantics.specs.declared.fault.Fault.TheVariants.{Refused};
 ghost use Rattle.snap_semantics.specs.declared.refusal.Refusal.TheVariants as refusal;
-ghost use Rattle.snap_sched.specs.ScriptText.{AreScripts, scripts_of};
+ghost use Rattle.snap_sched.specs.ScriptText.{AreScripts};
 ghost use Rattle.snap_live_output.specs.LiveOutput.{scripts_for, setup_for, setup_of, setup_text};
 ghost use Rattle.snap_input.specs.Input.{checked_parts};
 ghost use Rattle.snap_input.specs.Parts.{max_input, parts_of};
@@ -12,7 +12,7 @@ ghost use Rattle.snap_input.specs.RefusesAtOnce.{RefusesAtOnce};
 
 use snap_asm_program::Program;
 use snap_input::{MAX_INPUT, Prepared, fits, prepare};
-use snap_sched::Scripts;
+use snap_sched::{Scripts, read_scripts};
 use snap_semantics::{Fault, Refusal};
 use snap_tasks::Subject;
 use snap_words::WordFault;
@@ -60,13 +60,6 @@ impl Setup {
         let _shape = self.scripts.shape();
         &self.scripts
     }
-}
-
-/// Reads scripts.
-fn read_scripts(alloc: Global, text: &[u8]) -> Result<Scripts, Fault<Refusal>>
-    ensures { Answers (λ s. s) result (refused_as refusal.Schedule (scripts_of text.now)) }
-{
-    Ok(snap_sched::read_scripts(alloc, text)?)
 }
 
 /// Reads scripts whose shape fits the kind of a program.

@@ -1,6 +1,6 @@
 -- How a hunt's output is right: a schedule whose run fails is one to be made small, what is printed is the text of a
 -- small one, and a hunt of a text is one of its listing (`IsHunted`).
-use Rattle.std.proofs.Common.{◌≡◌, ℕ, List, Option, Some, None, Ok, refl, sym, ap, subst, ◌∙◌}
+use Rattle.std.proofs.Common.{◌≡◌, ℕ, List, Option, Some, None, Ok, sym, subst}
 use Rattle.snap_hunt_output.specs.Hunted.{IsDue, IsFaultOf, IsFirstOf, IsFound, IsHunted, IsHuntedOf, IsNoRefusal}
 use Rattle.snap_hunt_output.specs.Hunted.{IsPrinted, Says, asked_source}
 use Rattle.snap_hunt_output.specs.HuntRequest.{owned}
@@ -13,7 +13,7 @@ use Rattle.snap_hunt_output.specs.declared.hunted.Hunted.{Hunted}
 use Rattle.snap_semantics.specs.Schedule.{Schedule}
 use Rattle.snap_semantics.specs.ScheduleText.{IsSchedule}
 use Rattle.snap_semantics.specs.Source.{Source}
-use Rattle.snap_runs.specs.Run.{Run, run_over}
+use Rattle.snap_runs.specs.Run.{run_over}
 use Rattle.snap_chance.specs.Chance.{schedule_of}
 use Rattle.snap_chance.specs.Plan.{Plan}
 use Rattle.snap_hunt.specs.Finding.{Finds}
@@ -29,18 +29,15 @@ use Rattle.snap_hunt.specs.declared.found.Found.{Found}
 over : (l : Source) (p : Plan) (w : Wanted) (seed k : ℕ) (s : Schedule) (f : Failure) → s ≡ schedule_of seed k p →
     Finds w (run_of l p seed k) (Some f) → FailsWith l w s.shape s.items
 unfolding run_of FailsWith
-over l p w seed k s f is h =
-    subst (λ (t : Schedule). FailsWith l w t.shape t.items) (sym is) (f, h)
+over l p w seed k s f is h = rw is (f, h)
 
 -- the schedule of a run that fails, where nothing of another kind is wanted
 pub fails_over : (l : Source) (p : Plan) (w one : Wanted) (seed k : ℕ) (s : Schedule) (f : Failure) (g : FailureKind) →
     s ≡ schedule_of seed k p → IsSchedule s → g ≡ kind_of f → one ≡ with_only g w →
     Finds w (run_of l p seed k) (Some f) → Fails l one s.shape s.items
 fails_over l p w one seed k s f g is h kind only found = record {
-  schedule = record { shape = h.shape; processes = h.processes; few = h.few; fits = h.fits };
-  fails =
-      subst (λ (v : Wanted). FailsWith l v s.shape s.items) (sym (only ∙ ap (λ j. with_only j w) kind))
-      (over l p (with_only (kind_of f) w) seed k s f is (alike w (run_of l p seed k) f found));
+  schedule = h;
+  fails = rw (only, kind) (over l p (with_only (kind_of f) w) seed k s f is (alike w (run_of l p seed k) f found));
 }
 
 -- an input is the text of a small schedule whose run fails so
@@ -49,14 +46,8 @@ pub printed_by : (l : Source) (p : Plan) (text : List ℕ) (a : HuntRequest) (k 
     → IsShrunk l w s small → Finds w (run_over l small) (Some f) → input ≡ input_text text a.seed k f small →
     IsPrinted l p text a k kind f input
 printed_by l p text a k kind g f input w s small same only is small_enough fails printed =
-    let e : w ≡ with_only kind a.wanted = only ∙ ap (λ j. with_only j a.wanted) same in
-    record {
-      small = small;
-      shrunk =
-          subst (λ x. IsShrunk l x (schedule_of a.seed k p) small) e (subst (λ x. IsShrunk l w x small) is small_enough);
-      fails = subst (λ x. Finds x (run_over l small) (Some f)) e fails;
-      printed = printed;
-    }
+    let e : with_only kind a.wanted ≡ w = cc in
+    record { small = small; shrunk = rw (e, ← is) small_enough; fails = rw e fails; printed = printed }
 
 -- an input that is read says what is found in its run
 pub said : (w : Wanted) (input : List ℕ) (l : Source) (s : Schedule) (f : Failure) →
@@ -70,14 +61,10 @@ pub found_by : (l : Source) (text : List ℕ) (a : HuntRequest) (x : Found) (f :
     IsPrinted l p text a x.run (kind_of x.failure) f input → Says w input f → IsFound l text a x.run f input
 found_by l text a x f input p g w plan first same kind only printed says = record {
   found = x.failure;
-  first = subst (λ q. IsFirst l q a.wanted a.seed 0 a.runs (Some x)) plan first;
+  first = rw (← plan) first;
   alike = sym same;
-  printed =
-      subst (λ q. IsPrinted l q text a x.run (kind_of f) f input) plan
-      (subst (λ j. IsPrinted l p text a x.run j f input) (sym same) printed);
-  says =
-      subst (λ v. Says v input f)
-      (only ∙ ap (λ j. with_only j a.wanted) (kind ∙ sym same)) says;
+  printed = rw (← plan, same) printed;
+  says = rw (same, ← kind, ← only) says;
 }
 
 -- what a hunt of a program comes to is what one of its listing does
@@ -95,13 +82,12 @@ none_by l a p r plan first none =
 pub fault_by : (l : Source) (a : HuntRequest) (p : Plan) (x : Found) (e : ProgramFault) → p ≡ owned l.kind a.plan →
     IsFirst l p a.wanted a.seed 0 a.runs (Some x) → IsNoRefusal e → IsFaultOf l a e
 fault_by l a p x Memory plan first h = tt
-fault_by l a p x Unsaid plan first h = (x, subst (λ q. IsFirst l q a.wanted a.seed 0 a.runs (Some x)) plan first)
+fault_by l a p x Unsaid plan first h = (x, rw (← plan) first)
 fault_by l a p x e plan first h = h
 
 -- a fault of a hunt of the listing that is asked for
 pub due_by : (text : List ℕ) (a : HuntRequest) (l : Source) (e : ProgramFault) → asked_source text a ≡ Ok l →
-    IsFaultOf l a e →
-    IsDue text a e
+    IsFaultOf l a e → IsDue text a e
 due_by text a l Memory is h = tt
 due_by text a l Unsaid is h = (l, is, h)
 due_by text a l e is h = absurd h

@@ -7,9 +7,8 @@ use Rattle.snap_chance.specs.Plan.{Plan, with_owned}
 
 -- whether each process has a word of its own, which it alone may write
 abbrev pub owns_words : KindTag → Bool
-owns_words kind.Seq = true
-owns_words kind.Bits = true
 owns_words kind.Multi = false
+owns_words _ = true
 
 -- a plan in which each process updates its own word, where the kind wants it so
 abbrev pub owned : KindTag → Plan → Plan

@@ -2,9 +2,7 @@
 //! for what it is to print.
 ghost use Rattle.std.specs.Prelude.{◌≡◌, ◌<◌, ◌≤◌, length, map};
 ghost use Rattle.snap_runs.specs.Run.{run_over};
-ghost use Rattle.snap_semantics.specs.Answers.{Answers, refused_as};
-ghost use Rattle.snap_semantics.specs.declared.refusal.Refusal.TheVariants as refusal;
-ghost use Rattle.snap_debug_commands.specs.Commands.{commands_of};
+ghost use Rattle.snap_semantics.specs.Answers.{Answers};
 ghost use Rattle.snap_input.specs.Input.{parted};
 ghost use Rattle.snap_input.specs.Parts.{max_input, parts_of};
 ghost use Rattle.snap_input.specs.Schedules.{schedule_for};
@@ -12,7 +10,7 @@ ghost use Rattle.snap_tasks.specs.declared.subject.Subject.TheVariants.{FirstPar
 ghost use Rattle.snap_hunt_output.specs.Check.{run_in_input, run_in_texts, run_under};
 
 use snap_asm_program::Program;
-use snap_debug_commands::{Command, read_commands};
+use snap_debug_commands::read_commands;
 use snap_input::{Prepared, prepare, read_schedule};
 use snap_sched::Schedule;
 use snap_semantics::{Fault, Refusal};
@@ -24,14 +22,6 @@ use std::alloc::Global;
 pub struct InputRun {
     pub program: Program,
     pub schedule: Schedule,
-}
-
-/// Reads commands.
-fn commands_in(alloc: Global, text: &[u8]) -> Result<Vec<Command>, Fault<Refusal>>
-    ensures { Answers (λ commands. commands.items) result
-        (refused_as refusal.Commands (commands_of text.now)) }
-{
-    Ok(read_commands(alloc, text)?)
 }
 
 /// Returns the schedule of a text, for a program, where another text has commands.
@@ -46,7 +36,7 @@ fn schedule_under(
         (run_under program.now schedule.now commands.now) }
 {
     let schedule = read_schedule(alloc, program, schedule)?;
-    let _commands = commands_in(alloc, commands)?;
+    let _commands = read_commands(alloc, commands)?;
     Ok(schedule)
 }
 

@@ -146,54 +146,6 @@ fn hunted_of(
     })
 }
 
-/// Returns the first of the runs of a program that fails, as an input of a small run that fails
-/// too; or that none of them does.
-fn hunt_program<W: Watcher>(
-    rt: &(impl Threads + Sync),
-    alloc: Global,
-    listing: &[u8],
-    program: &Program,
-    asked: &HuntRequest,
-    watcher: &mut W,
-) -> Result<Hunted, ProgramFault>
-    requires { asked.now.runs < 2 ^ 63 }
-    ensures hunted { IfOk result (IsHuntedOf program.now listing.now asked.now) }
-    ensures fault { IfErr result (IsFaultOf program.now asked.now) }
-{
-    let plan = owned(program.kind(), &asked.plan);
-    let hunt = Hunt {
-        program,
-        plan: &plan,
-        wanted: &asked.wanted,
-        seed: asked.seed,
-    };
-    let found = first_failing(rt, alloc, &hunt, asked.runs, watcher)?;
-    hunted_of(alloc, listing, program, &plan, asked, found)
-}
-
-/// Returns the first of the runs of a program that fails, as an input of a small run that fails
-/// too, or that none does, found without threads.
-fn hunt_program_alone(
-    alloc: Global,
-    listing: &[u8],
-    program: &Program,
-    asked: &HuntRequest,
-) -> Result<Hunted, ProgramFault>
-    requires { asked.now.runs < 2 ^ 63 }
-    ensures hunted { IfOk result (IsHuntedOf program.now listing.now asked.now) }
-    ensures fault { IfErr result (IsFaultOf program.now asked.now) }
-{
-    let plan = owned(program.kind(), &asked.plan);
-    let hunt = Hunt {
-        program,
-        plan: &plan,
-        wanted: &asked.wanted,
-        seed: asked.seed,
-    };
-    let found = first_failing_alone(alloc, &hunt, asked.runs)?;
-    hunted_of(alloc, listing, program, &plan, asked, found)
-}
-
 /// Returns the program of a listing, if the shape fits its kind.
 fn asked_program(
     alloc: Global,
@@ -229,7 +181,15 @@ pub fn hunt_listing<W: Watcher>(
     ensures refused { IfErr result (IsDue listing.now asked.now) }
 {
     let program = asked_program(alloc, listing, asked)?;
-    hunt_program(rt, alloc, listing, &program, asked, watcher)
+    let plan = owned(program.kind(), &asked.plan);
+    let hunt = Hunt {
+        program: &program,
+        plan: &plan,
+        wanted: &asked.wanted,
+        seed: asked.seed,
+    };
+    let found = first_failing(rt, alloc, &hunt, asked.runs, watcher)?;
+    hunted_of(alloc, listing, &program, &plan, asked, found)
 }
 
 /// Returns what `hunt_listing` returns, found in one thread.
@@ -249,5 +209,13 @@ pub fn hunt_alone(
     ensures refused { IfErr result (IsDue listing.now asked.now) }
 {
     let program = asked_program(alloc, listing, asked)?;
-    hunt_program_alone(alloc, listing, &program, asked)
+    let plan = owned(program.kind(), &asked.plan);
+    let hunt = Hunt {
+        program: &program,
+        plan: &plan,
+        wanted: &asked.wanted,
+        seed: asked.seed,
+    };
+    let found = first_failing_alone(alloc, &hunt, asked.runs)?;
+    hunted_of(alloc, listing, &program, &plan, asked, found)
 }

@@ -1,6 +1,6 @@
 -- `ask_of`: what a line at the debugger's prompt asks for, one of the prompt's own words or a debugger command, or
 -- why it is refused.
-use Rattle.std.specs.Prelude.{ℕ, List, [], ◌∷◌, ◌++◌, Bool, true, false, not, Option, Some, None, Result, Ok, Err}
+use Rattle.std.specs.Prelude.{ℕ, List, [], ◌∷◌, ◌++◌, Bool, true, not, Option, Some, None, Result, Ok, Err}
 use Rattle.std.specs.Prelude.{codes, length, nat_eq, nat_lt, is_some, if◌then◌else◌, ◌==◌}
 use Rattle.std.specs.Io.BufRead.{strip_last}
 use Rattle.snap_streams.specs.TypedLines.{max_line}
@@ -91,8 +91,7 @@ prompt_ask ts =
     (or_else (list_ask ts) (or_else (why_ask ts) (or_else (break_ask ts) (or_else (leading_ask ts) (adding_ask ts)))))
 
 abbrev pub prompt_ask_in : Option (List Token) → Option Ask
-prompt_ask_in None = None
-prompt_ask_in (Some ts) = prompt_ask ts
+prompt_ask_in ts = ts >>= prompt_ask
 
 -- whether a byte before these is a letter or a digit alone
 abbrev pub stands_alone : List ℕ → Bool
@@ -116,12 +115,7 @@ spelled_out (b ∷ bs) = if stands_alone bs then long_word b ++ bs else b ∷ bs
 -- a refusal that names a line names the one with this number
 abbrev pub at_line : ℕ → CommandRefusal → CommandRefusal
 at_line number (refusal.BadCommand line) = refusal.BadCommand number
-at_line number refusal.NoSuchLine = refusal.NoSuchLine
-at_line number refusal.NoSuchProcess = refusal.NoSuchProcess
-at_line number refusal.NoSuchRegister = refusal.NoSuchRegister
-at_line number refusal.NoSuchPosition = refusal.NoSuchPosition
-at_line number refusal.TooManyMarks = refusal.TooManyMarks
-at_line number refusal.TooLong = refusal.TooLong
+at_line number r = r
 
 -- the command of a line, which has one at most
 abbrev pub first_command : List Command → Ask
@@ -148,10 +142,6 @@ ask_of number line =
 unfoldable pub yes_form : List Token → Option (Unit {0})
 yes_form ts = or_else (keyword_form (codes "y") ts) (keyword_form (codes "yes") ts)
 
-abbrev pub is_yes_in : Option (List Token) → Bool
-is_yes_in None = false
-is_yes_in (Some ts) = is_some (yes_form ts)
-
 -- whether a line says yes
 abbrev pub is_yes : List ℕ → Bool
-is_yes line = is_yes_in (tokens_of (strip_last 10 line))
+is_yes line = is_some (tokens_of (strip_last 10 line) >>= yes_form)

@@ -29,12 +29,9 @@ changed kind old new = text_between (lines_of (state_text kind old)) (lines_of (
 -- whether an item that came out so ran a line
 abbrev pub ran : Outcome → Bool
 ran outcome.Called = false
-ran outcome.Stepped = true
-ran (outcome.Answered view) = true
-ran outcome.Finished = true
-ran (outcome.Trapped cause) = true
 ran outcome.Crashed = false
 ran (outcome.Skipped reason) = false
+ran _ = true
 
 -- the line that the last item ran, which is the one at which its process was before it
 abbrev pub line_run : Run → ℕ → Option (ℕ × Outcome) → Option ℕ

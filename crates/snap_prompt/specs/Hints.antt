@@ -1,6 +1,5 @@
 -- What is said where a line at the prompt is refused: why, and what would have been right.
 use Rattle.std.specs.Prelude.{ℕ, List, [], ◌∷◌, ◌++◌, codes, decimal}
-use Rattle.snap_words.specs.Shape.{Counts}
 use Rattle.snap_words.specs.declared.kind.KindTag.{KindTag}
 use Rattle.snap_words.specs.declared.kind.KindTag.TheVariants as kind
 use Rattle.snap_semantics.specs.declared.instr.Line.{Line}
@@ -30,11 +29,11 @@ last_number number (line ∷ lines) = last_number line.number lines
 abbrev pub range_text : List ℕ → ℕ → ℕ → List ℕ
 range_text what from to = codes ": " ++ what ++ codes " " ++ decimal from ++ codes " to " ++ decimal to
 
--- the registers of a kind
-abbrev pub registers_text : KindTag → Counts → List ℕ
-registers_text kind.Seq s = range_text REGISTERS.now 1 s.w
-registers_text kind.Bits s = range_text BIT_REGISTERS.now 1 s.w
-registers_text kind.Multi s = range_text MULTI_REGISTERS.now 1 s.w
+-- the registers of a kind, as they stand before the numbers of its words
+abbrev pub register_words : KindTag → List ℕ
+register_words kind.Seq = REGISTERS.now
+register_words kind.Bits = BIT_REGISTERS.now
+register_words kind.Multi = MULTI_REGISTERS.now
 
 -- what would have been right
 unfoldable pub hint_text : Session → CommandRefusal → List ℕ
@@ -42,7 +41,7 @@ hint_text s (refusal.BadCommand line) = SEE_HELP.now
 hint_text s refusal.NoSuchLine =
     range_text LINES.now (first_number s.run.source.lines) (last_number 0 s.run.source.lines)
 hint_text s refusal.NoSuchProcess = range_text PROCESSES.now 1 s.run.shape.n
-hint_text s refusal.NoSuchRegister = registers_text s.run.source.kind s.run.shape
+hint_text s refusal.NoSuchRegister = range_text (register_words s.run.source.kind) 1 s.run.shape.w
 hint_text s refusal.NoSuchPosition = range_text POSITIONS.now 0 (total s)
 hint_text s refusal.TooManyMarks = MARKS_FULL.now
 hint_text s refusal.TooLong = LINE_LIMIT.now

@@ -80,60 +80,20 @@ prompt_text p = greeting_or_none p ++ position_or_none p
 
 -- with one line more; they are counted up to 2^64 - 1
 abbrev pub counted : Prompt → Prompt
-counted p = record {
-  session = p.session;
-  last = p.last;
-  question = p.question;
-  lines = min (p.lines + 1) (2 ^ 64 - 1);
-  has_unsaved = p.has_unsaved;
-  kept = p.kept;
-  shows = p.shows;
-}
+counted p = record p { lines = min (p.lines + 1) (2 ^ 64 - 1) }
 
 abbrev pub with_session : Session → Prompt → Prompt
-with_session s p = record {
-  session = s;
-  last = p.last;
-  question = p.question;
-  lines = p.lines;
-  has_unsaved = p.has_unsaved;
-  kept = p.kept;
-  shows = p.shows;
-}
+with_session s p = record p { session = s }
 
 abbrev pub with_question : Option Question → Prompt → Prompt
-with_question q p = record {
-  session = p.session;
-  last = p.last;
-  question = q;
-  lines = p.lines;
-  has_unsaved = p.has_unsaved;
-  kept = p.kept;
-  shows = p.shows;
-}
+with_question q p = record p { question = q }
 
 abbrev pub with_last : Ask → Prompt → Prompt
-with_last a p = record {
-  session = p.session;
-  last = Some a;
-  question = p.question;
-  lines = p.lines;
-  has_unsaved = p.has_unsaved;
-  kept = p.kept;
-  shows = p.shows;
-}
+with_last a p = record p { last = Some a }
 
 -- with a longer schedule, over which there is this session
 abbrev pub with_addition : Session → Prompt → Prompt
-with_addition s p = record {
-  session = s;
-  last = p.last;
-  question = p.question;
-  lines = p.lines;
-  has_unsaved = true;
-  kept = p.kept;
-  shows = p.shows;
-}
+with_addition s p = record p { session = s; has_unsaved = true }
 
 -- what the prompt is after a line, what is answered, and whether the dialog goes on
 pub record Answer (T : Type 0) : Type 0 where
@@ -156,15 +116,7 @@ moves (command.Back k) = true
 moves (command.Goto t) = true
 moves command.Run = true
 moves command.ReverseRun = true
-moves (command.Break b) = false
-moves (command.Clear b) = false
-moves (command.Watch a) = false
-moves (command.Unwatch a) = false
-moves (command.ShowRegister a) = false
-moves (command.ShowProcess i) = false
-moves command.Values = false
-moves command.Events = false
-moves command.Where = false
+moves _ = false
 
 -- what is said of a command that does not move: the session's reply, or why it is refused
 abbrev pub reply_or_refusal : Session → Command → Result Session CommandRefusal → List ℕ
@@ -258,18 +210,7 @@ done p (ask.Do c) = in_words (did p c)
 abbrev pub meant : Option Ask → Ask → Option Ask
 meant last ask.Nothing = None
 meant last ask.Again = last
-meant last ask.Quit = Some ask.Quit
-meant last ask.Help = Some ask.Help
-meant last ask.All = Some ask.All
-meant last ask.Report = Some ask.Report
-meant last ask.Save = Some ask.Save
-meant last ask.ListLast = Some ask.ListLast
-meant last (ask.List i) = Some (ask.List i)
-meant last (ask.Why item) = Some (ask.Why item)
-meant last (ask.Add a) = Some (ask.Add a)
-meant last (ask.Until i line) = Some (ask.Until i line)
-meant last (ask.End i) = Some (ask.End i)
-meant last (ask.Do c) = Some (ask.Do c)
+meant last a = Some a
 
 -- what is meant is the last thing from there on
 abbrev pub done_meant : Prompt → Option Ask → Answer Said
@@ -320,15 +261,8 @@ saves_under (Some q) line = None
 -- The prompt after its schedule was to be saved under a name: where it was, the file has the text that `save` prints,
 -- and nothing is unsaved.
 abbrev pub after_saving : Prompt → (name : List ℕ) → (is_saved : Bool) → Prompt
-after_saving p name true = record {
-  session = p.session;
-  last = p.last;
-  question = p.question;
-  lines = p.lines;
-  has_unsaved = false;
-  kept = with_kept name (schedule_text (schedule_of_run p.session.run)) p.kept;
-  shows = p.shows;
-}
+after_saving p name true =
+    record p { has_unsaved = false; kept = with_kept name (schedule_text (schedule_of_run p.session.run)) p.kept }
 after_saving p name false = p
 
 -- what is said of a schedule that was to be saved under a name was added, and the prompt is as it is after that

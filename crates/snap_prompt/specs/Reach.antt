@@ -2,6 +2,7 @@
 use Rattle.std.specs.Prelude.{◌≡◌, ℕ, zero, suc, ◌+◌, ◌-◌, ◌<◌, ◌≤◌, Bool, true, false, not, List, Option, Some, None}
 use Rattle.std.specs.Prelude.{Result, Ok, Err, ⊤, nat_eq, if◌then◌else◌, replicate}
 use Rattle.snap_words.specs.Shape.{Counts, max_items}
+use Rattle.snap_semantics.specs.Answers.{◌>>=◌}
 use Rattle.snap_semantics.specs.Listing.{has_line}
 use Rattle.snap_semantics.specs.Run.{after}
 use Rattle.snap_semantics.specs.Source.{Source}
@@ -25,9 +26,7 @@ is_at goal.End line = false
 -- Whether a process that stands so has reached a goal: it is at its line, or no longer busy.
 abbrev pub has_reached : Goal → Status → Bool
 has_reached g (Busy a) = is_at g a.line
-has_reached g Idle = true
-has_reached g (Trapped e a) = true
-has_reached g (Crashed was) = true
+has_reached g _ = true
 
 -- the state after a step of process i
 abbrev pub stepped : Source → Counts → ℕ → State → State
@@ -53,31 +52,22 @@ checked_status Idle = Err none.Idle
 checked_status (Trapped e a) = Err none.Trapped
 checked_status (Crashed was) = Err none.Crashed
 
--- the first that fails of two
-abbrev pub both : Result (Unit {0}) NoSteps → Result (Unit {0}) NoSteps → Result (Unit {0}) NoSteps
-both (Ok u) next = next
-both (Err why) next = Err why
-
 -- one of the processes, a goal that is there, and then that the process is busy
 abbrev pub checked : Session → ℕ → Goal → Result (Unit {0}) NoSteps
 checked s i g =
     if not (has_process s i) then Err none.NoSuchProcess else
-    both (checked_goal s.run.source.lines g) (checked_status (process_at (state_of s) i).status)
+    (checked_goal s.run.source.lines g >>= λ there. checked_status (process_at (state_of s) i).status)
 
 -- the steps, or that the schedule is full before
 abbrev pub or_full : Option ℕ → Result ℕ NoSteps
 or_full None = Err none.Full
 or_full (Some k) = Ok k
 
-abbrev pub steps_if : Result (Unit {0}) NoSteps → Option ℕ → Result ℕ NoSteps
-steps_if (Ok u) steps = or_full steps
-steps_if (Err why) steps = Err why
-
 -- How many steps process i takes to a goal from where a session stands: the fewest, at least one, and as many as
 -- there is room for behind the position.
 unfoldable pub steps_to : Session → ℕ → Goal → Result ℕ NoSteps
 steps_to s i g =
-    steps_if (checked s i g) (steps_from s.run.source s.run.shape i g 0 (max_items - s.position) (state_of s))
+    checked s i g >>= λ leads. or_full (steps_from s.run.source s.run.shape i g 0 (max_items - s.position) (state_of s))
 
 -- whether process i has reached a goal after k steps of its own
 abbrev pub reached_after : Source → Counts → ℕ → Goal → State → ℕ → Bool
@@ -98,8 +88,4 @@ LeadsNowhere l shape i g s most = (j : ℕ) → 0 < j → j ≤ most → reached
 abbrev pub IsRightOf : Session → ℕ → Goal → Result ℕ NoSteps → Type 0
 IsRightOf s i g (Ok k) = IsFewest s.run.source s.run.shape i g (state_of s) k × (k ≤ max_items - s.position)
 IsRightOf s i g (Err none.Full) = LeadsNowhere s.run.source s.run.shape i g (state_of s) (max_items - s.position)
-IsRightOf s i g (Err none.NoSuchProcess) = ⊤
-IsRightOf s i g (Err none.NoSuchLine) = ⊤
-IsRightOf s i g (Err none.Idle) = ⊤
-IsRightOf s i g (Err none.Trapped) = ⊤
-IsRightOf s i g (Err none.Crashed) = ⊤
+IsRightOf s i g _ = ⊤

@@ -3,6 +3,7 @@ use Rattle.std.specs.Prelude.{ℕ, List, [], ◌∷◌, Bool, true, false, not, 
 use Rattle.std.specs.Prelude.{drop, length, nat_eq, nat_le, take, if◌then◌else◌}
 use Rattle.std.specs.List.{list_any}
 use Rattle.std.specs.Io.BufRead.{strip_last}
+use Rattle.snap_semantics.specs.Rules.{◌>>=◌}
 
 -- what stands behind a word, where a line begins with it
 abbrev pub behind : (word line : List ℕ) → Option (List ℕ)
@@ -18,13 +19,9 @@ abbrev pub is_file_name : List ℕ → Bool
 is_file_name [] = false
 is_file_name (b ∷ bs) = not (list_any ends_name (b ∷ bs))
 
-abbrev pub file_or_none : Option (List ℕ) → Option (List ℕ)
-file_or_none None = None
-file_or_none (Some name) = if is_file_name name then Some name else None
-
 -- the file that a line names behind a word
 abbrev pub file_named : (word line : List ℕ) → Option (List ℕ)
-file_named word line = file_or_none (behind word line)
+file_named word line = behind word line >>= λ name. if is_file_name name then Some name else None
 
 abbrev pub saved_or_replaced : Option (List ℕ) → Option (List ℕ) → Option (List ℕ × Bool)
 saved_or_replaced (Some name) replaced = Some (name, false)

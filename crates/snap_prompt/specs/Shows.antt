@@ -6,11 +6,9 @@ use Rattle.snap_prompt.specs.declared.shows.Shows.TheVariants as shows
 -- whether the position stands before each line
 abbrev pub places : Shows → Bool
 places shows.Answers = false
-places shows.Positions = true
-places shows.Greeting = true
+places _ = true
 
 -- whether a person is greeted, and asked before what was added is lost
 abbrev pub greets : Shows → Bool
-greets shows.Answers = false
-greets shows.Positions = false
 greets shows.Greeting = true
+greets _ = false

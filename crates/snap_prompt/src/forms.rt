@@ -1,6 +1,7 @@
 //! The forms of the prompt's own lines, such as `list`, `why`, `call`, `until` and `end`, which are
 //! no debugger commands.
-ghost use Rattle.snap_text.specs.Tokens.{Finds, view_tokens};
+ghost use Rattle.std.specs.Prelude.{◌≡◌};
+ghost use Rattle.snap_text.specs.Tokens.{view_tokens};
 ghost use Rattle.snap_prompt.specs.Ask.{adding_ask, alone, break_ask, call_ask, leading_ask};
 ghost use Rattle.snap_prompt.specs.Ask.{list_ask, op_form, prompt_ask, steps_ask, why_ask};
 ghost use Rattle.snap_prompt.specs.Ask.{word_ask, yes_form};
@@ -14,7 +15,7 @@ use snap_text::{Token, keyword_at, number_at};
 /// Reads `word` alone, which asks for `ask`.
 #[tactic(auto, unfolding(crate::specs::Ask::alone))]
 fn alone(word: &[u8], ask: Ask, tokens: &[Token<'_>]) -> Option<Ask>
-    ensures { Finds (λ a. a) result (alone word.now ask (view_tokens tokens.now)) }
+    ensures { result ≡ alone word.now ask (view_tokens tokens.now) }
 {
     keyword_form(word, tokens)?;
     Some(ask)
@@ -23,7 +24,7 @@ fn alone(word: &[u8], ask: Ask, tokens: &[Token<'_>]) -> Option<Ask>
 /// Reads a word of the prompt's own.
 #[tactic(auto, unfolding(crate::specs::Ask::word_ask))]
 fn word_ask(tokens: &[Token<'_>]) -> Option<Ask>
-    ensures { Finds (λ a. a) result (word_ask (view_tokens tokens.now)) }
+    ensures { result ≡ word_ask (view_tokens tokens.now) }
 {
     if let Some(ask) = alone(b"quit", Ask::Quit, tokens) {
         return Some(ask);
@@ -49,7 +50,7 @@ fn word_ask(tokens: &[Token<'_>]) -> Option<Ask>
 /// Reads `list`, or `list I`.
 #[tactic(auto, unfolding(crate::specs::Ask::list_ask))]
 fn list_ask(tokens: &[Token<'_>]) -> Option<Ask>
-    ensures { Finds (λ a. a) result (list_ask (view_tokens tokens.now)) }
+    ensures { result ≡ list_ask (view_tokens tokens.now) }
 {
     if let Some(ask) = alone(b"list", Ask::ListLast, tokens) {
         return Some(ask);
@@ -61,7 +62,7 @@ fn list_ask(tokens: &[Token<'_>]) -> Option<Ask>
 /// Reads `why`, or `why T`.
 #[tactic(auto, unfolding(crate::specs::Ask::why_ask))]
 fn why_ask(tokens: &[Token<'_>]) -> Option<Ask>
-    ensures { Finds (λ a. a) result (why_ask (view_tokens tokens.now)) }
+    ensures { result ≡ why_ask (view_tokens tokens.now) }
 {
     if let Some(ask) = alone(b"why", Ask::Why(None), tokens) {
         return Some(ask);
@@ -73,7 +74,7 @@ fn why_ask(tokens: &[Token<'_>]) -> Option<Ask>
 /// Reads a scan, or an update.
 #[tactic(auto, unfolding(crate::specs::Ask::op_form))]
 fn op_form(tokens: &[Token<'_>]) -> Option<Op>
-    ensures { Finds (λ o. o) result (op_form (view_tokens tokens.now)) }
+    ensures { result ≡ op_form (view_tokens tokens.now) }
 {
     if keyword_form(b"scan", tokens).is_some() {
         return Some(Op::Scan);
@@ -85,7 +86,7 @@ fn op_form(tokens: &[Token<'_>]) -> Option<Op>
 /// Reads `call I scan`, or `call I update K X`.
 #[tactic(auto, unfolding(crate::specs::Ask::call_ask))]
 fn call_ask(tokens: &[Token<'_>]) -> Option<Ask>
-    ensures { Finds (λ a. a) result (call_ask (view_tokens tokens.now)) }
+    ensures { result ≡ call_ask (view_tokens tokens.now) }
 {
     let rest = keyword_at(b"call", tokens)?;
     let (process, rest) = number_at(rest)?;
@@ -96,7 +97,7 @@ fn call_ask(tokens: &[Token<'_>]) -> Option<Ask>
 /// Reads `step I K`, for steps at all.
 #[tactic(auto, unfolding(crate::specs::Ask::steps_ask))]
 fn steps_ask(word: &[u8], tokens: &[Token<'_>]) -> Option<Ask>
-    ensures { Finds (λ a. a) result (steps_ask word.now (view_tokens tokens.now)) }
+    ensures { result ≡ steps_ask word.now (view_tokens tokens.now) }
 {
     let (process, count) = numbers_form(word, tokens)?;
     if count == 0 {
@@ -108,7 +109,7 @@ fn steps_ask(word: &[u8], tokens: &[Token<'_>]) -> Option<Ask>
 /// Reads an addition to the schedule.
 #[tactic(auto, unfolding(crate::specs::Ask::adding_ask))]
 fn adding_ask(tokens: &[Token<'_>]) -> Option<Ask>
-    ensures { Finds (λ a. a) result (adding_ask (view_tokens tokens.now)) }
+    ensures { result ≡ adding_ask (view_tokens tokens.now) }
 {
     if let Some(ask) = steps_ask(b"step", tokens) {
         return Some(ask);
@@ -126,7 +127,7 @@ fn adding_ask(tokens: &[Token<'_>]) -> Option<Ask>
 /// Reads `until I N`, or `end I`.
 #[tactic(auto, unfolding(crate::specs::Ask::leading_ask))]
 fn leading_ask(tokens: &[Token<'_>]) -> Option<Ask>
-    ensures { Finds (λ a. a) result (leading_ask (view_tokens tokens.now)) }
+    ensures { result ≡ leading_ask (view_tokens tokens.now) }
 {
     if let Some((process, line)) = numbers_form(b"until", tokens) {
         return Some(Ask::Until { process, line });
@@ -138,7 +139,7 @@ fn leading_ask(tokens: &[Token<'_>]) -> Option<Ask>
 /// Reads `b I N`, which sets a breakpoint.
 #[tactic(auto, unfolding(crate::specs::Ask::break_ask))]
 fn break_ask(tokens: &[Token<'_>]) -> Option<Ask>
-    ensures { Finds (λ a. a) result (break_ask (view_tokens tokens.now)) }
+    ensures { result ≡ break_ask (view_tokens tokens.now) }
 {
     let (process, line) = numbers_form(b"b", tokens)?;
     Some(Ask::Do(Command::Break(Breakpoint { process, line })))
@@ -147,7 +148,7 @@ fn break_ask(tokens: &[Token<'_>]) -> Option<Ask>
 /// Reads a request of the prompt's own.
 #[tactic(auto, unfolding(crate::specs::Ask::prompt_ask))]
 pub(crate) fn prompt_ask(tokens: &[Token<'_>]) -> Option<Ask>
-    ensures { Finds (λ a. a) result (prompt_ask (view_tokens tokens.now)) }
+    ensures { result ≡ prompt_ask (view_tokens tokens.now) }
 {
     if let Some(ask) = word_ask(tokens) {
         return Some(ask);
@@ -170,10 +171,7 @@ pub(crate) fn prompt_ask(tokens: &[Token<'_>]) -> Option<Ask>
 /// Reads `y`, or `yes`.
 #[tactic(auto, unfolding(crate::specs::Ask::yes_form))]
 pub(crate) fn yes_form(tokens: &[Token<'_>]) -> Option<()>
-    ensures { Finds (λ end. end) result (yes_form (view_tokens tokens.now)) }
+    ensures { result ≡ yes_form (view_tokens tokens.now) }
 {
-    if let Some(end) = keyword_form(b"y", tokens) {
-        return Some(end);
-    }
-    keyword_form(b"yes", tokens)
+    keyword_form(b"y", tokens).or(keyword_form(b"yes", tokens))
 }

@@ -3,7 +3,7 @@ ghost use Rattle.std.specs.Prelude.{◌≡◌, codes};
 ghost use Rattle.snap_text.specs.Drafted.{Adds};
 ghost use Rattle.snap_prompt.specs.Hints.{added_hint, first_number, hint_text, last_number};
 ghost use Rattle.snap_prompt.specs.Hints.{range_text, refused_addition, refused_line};
-ghost use Rattle.snap_prompt.specs.Hints.{refused_steps, registers_text, standing_line};
+ghost use Rattle.snap_prompt.specs.Hints.{refused_steps, register_words, standing_line};
 
 use crate::NoSteps;
 use crate::words::{
@@ -14,7 +14,7 @@ use snap_debug::{Session, push_refusal};
 use snap_faults::push_refused;
 use snap_semantics::{CommandRefusal, Line, Refusal, ScheduleRefusal};
 use snap_text::Draft;
-use snap_words::{Kind, KindTag, Shape};
+use snap_words::{Kind, KindTag};
 
 /// Returns the number of the first of `lines`, and 0 if there is none.
 fn first_number(lines: &[Line]) -> u64
@@ -58,14 +58,14 @@ pub(crate) fn push_lines_range<K: Kind>(out: &mut Draft, session: &Session<K>, w
     push_range(out, what, first_number(lines), last_number(lines));
 }
 
-/// Appends which registers there are.
-fn push_registers(out: &mut Draft, kind: KindTag, shape: Shape)
-    ensures { Adds out.old out.new (registers_text kind shape) }
+/// Returns the registers of a kind, as they stand before the numbers of its words.
+fn register_words(kind: KindTag) -> &'static [u8]
+    ensures { result.now ≡ register_words kind }
 {
     match kind {
-        KindTag::Seq => push_range(out, REGISTERS, 1, shape.w()),
-        KindTag::Bits => push_range(out, BIT_REGISTERS, 1, shape.w()),
-        KindTag::Multi => push_range(out, MULTI_REGISTERS, 1, shape.w()),
+        KindTag::Seq => REGISTERS,
+        KindTag::Bits => BIT_REGISTERS,
+        KindTag::Multi => MULTI_REGISTERS,
     }
 }
 
@@ -81,7 +81,8 @@ fn push_hint<K: Kind>(out: &mut Draft, session: &Session<K>, refusal: &CommandRe
             push_range(out, PROCESSES, 1, session.machine().shape().n());
         }
         CommandRefusal::NoSuchRegister => {
-            push_registers(out, session.program().kind(), session.machine().shape());
+            let what = register_words(session.program().kind());
+            push_range(out, what, 1, session.machine().shape().w());
         }
         CommandRefusal::NoSuchPosition => {
             push_range(out, POSITIONS, 0, session.total());

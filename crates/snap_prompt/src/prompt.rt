@@ -1,5 +1,5 @@
 //! `Prompt`: a debugger session that is talked to line by line, with the answer to each line.
-ghost use Rattle.std.specs.Prelude.{◌≡◌, ◌++◌, IfOk, OnOk, Ok};
+ghost use Rattle.std.specs.Prelude.{◌≡◌, ◌++◌, IfOk, OnOk, Ok, true};
 ghost use Rattle.snap_text.specs.Drafted.{Adds};
 ghost use Rattle.snap_runs.specs.Run.{run_over};
 ghost use Rattle.snap_streams.specs.Dialog.{Replies};
@@ -270,6 +270,7 @@ impl<K: Kind, S: Folder + Copy> Prompt<K, S> {
     fn push_added(&mut self, out: &mut Draft, addition: Addition) -> Result<(), AllocError>
         ensures text { OnOk result (Adds out.old out.new (added self.old addition).said) }
         ensures state { OnOk result (self.new ≡ (added self.old addition).state) }
+        ensures goes_on { OnOk result ((added self.old addition).goes_on ≡ true) }
     {
         let position = self.session.position();
         let before = state_text(self.alloc, self.session.machine())?;
@@ -300,6 +301,7 @@ impl<K: Kind, S: Folder + Copy> Prompt<K, S> {
     fn push_wanted(&mut self, out: &mut Draft, addition: Addition) -> Result<(), AllocError>
         ensures text { OnOk result (Adds out.old out.new (wanted self.old addition).said) }
         ensures state { OnOk result (self.new ≡ (wanted self.old addition).state) }
+        ensures goes_on { OnOk result ((wanted self.old addition).goes_on ≡ true) }
     {
         if self.session.position() == self.session.total() {
             return self.push_added(out, addition);
@@ -314,6 +316,7 @@ impl<K: Kind, S: Folder + Copy> Prompt<K, S> {
     fn push_led(&mut self, out: &mut Draft, process: u64, goal: Goal) -> Result<(), AllocError>
         ensures text { OnOk result (Adds out.old out.new (led self.old process goal).said) }
         ensures state { OnOk result (self.new ≡ (led self.old process goal).state) }
+        ensures goes_on { OnOk result ((led self.old process goal).goes_on ≡ true) }
     {
         match steps_to(&self.session, process, goal)? {
             Ok(count) => self.push_wanted(out, Addition::Steps { process, count }),

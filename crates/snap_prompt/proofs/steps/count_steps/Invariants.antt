@@ -8,8 +8,7 @@ abbrev pub invariant-loop-taken : goal.invariant-loop-taken
 invariant-loop-taken g l =
     let m = l.fn.machine in
     record {
-      source : l.machine.source ≡ m.source;
       shape : l.machine.shape ≡ m.shape;
-      all : steps_from m.source m.shape l.process l.goal l.taken (l.most - l.taken) l.machine.state
+      all : steps_from l.machine.source l.machine.shape l.process l.goal l.taken (l.most - l.taken) l.machine.state
           ≡ steps_from m.source m.shape l.process l.goal 0 l.most m.state;
     }

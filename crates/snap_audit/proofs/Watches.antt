@@ -28,8 +28,8 @@ use Rattle.snap_walk.specs.Glance as glance
 use Rattle.snap_walk.specs.declared.passed.Passed.{Passed}
 use Rattle.snap_walk.proofs.Over.{Keeps, kept_over, looks_ahead, untold_cases}
 use Rattle.snap_walk.proofs.Ways.{all_items, items_more, passed_state, skipped_nothing}
-use Rattle.snap_audit.specs.Watch.{AreSilent, Watches, WatchesOn, is_silent, is_test_line, is_write_line, silent_lines, so_far}
-use Rattle.snap_audit.specs.Watch.{told_role}
+use Rattle.snap_audit.specs.Watch.{AreSilent, Watches, WatchesOn, is_silent, is_test_line, is_write_line, silent_lines}
+use Rattle.snap_audit.specs.Watch.{so_far, told_role}
 use Rattle.snap_audit.specs.declared.watch.Watch.{Watch}
 
 -- what is told of a step of a process that stands so

@@ -1,9 +1,9 @@
 -- What is written of surveys, with what was judged for them.
-use Rattle.std.proofs.Common.{◌≡◌, ℕ, ◌+◌, ◌<◌, Bool, List, [], ◌∷◌, ◌++◌, Result, Ok, Err, refl, sym, ap, subst, ◌∙◌}
+use Rattle.std.proofs.Common.{◌≡◌, ℕ, ◌+◌, ◌<◌, Bool, List, [], ◌∷◌, ◌++◌, Result, Ok, Err, refl, sym, subst, ◌∙◌}
 use Rattle.std.proofs.Common.{get_or, length, take}
 use Rattle.std.proofs.lemmas.List.{take_more}
 use Rattle.std.specs.List.{list_all}
-use Rattle.snap_semantics.specs.Answers.{◌>>=◌, IsRefusal}
+use Rattle.snap_semantics.specs.Answers.{IsRefusal}
 use Rattle.snap_semantics.specs.Schedule.{Schedule}
 use Rattle.snap_semantics.specs.Source.{Source}
 use Rattle.snap_semantics.specs.declared.fault.Fault.{Fault}
@@ -12,9 +12,9 @@ use Rattle.snap_runs.specs.Run.{run_over}
 use Rattle.snap_judge.specs.declared.judgements.Failing.{Failing}
 use Rattle.snap_input.proofs.Answered.{same_answer}
 use Rattle.snap_input.proofs.Parting.{are_prepared, on_schedules}
-use Rattle.snap_input.specs.Input.{Prepared, listing_for, texts_for}
+use Rattle.snap_input.specs.Input.{Prepared, listing_for}
 use Rattle.snap_input.specs.ManySchedules.{prepared_schedules, schedules_for}
-use Rattle.snap_survey.specs.Survey.{IsSurveyOf, judged_survey}
+use Rattle.snap_survey.specs.Survey.{IsSurveyOf}
 use Rattle.snap_survey.specs.SurveyText.{surveys_text}
 use Rattle.snap_survey.specs.Surveys.{AnswersSurvey, AreSurveysOf, WereJudged, WereJudgedIn, WereJudgedOver, are_clean}
 use Rattle.snap_survey.specs.Surveys.{clean_runs, is_clean, survey_text, surveyed, surveys_over}
@@ -26,33 +26,25 @@ use Rattle.snap_tasks.specs.declared.subject.Subject.{Subject}
 pub one_surveyed : (l : Source) (ss : List Schedule) (vs : List JudgedSurvey) (s : Schedule) (v : JudgedSurvey) →
     AreSurveysOf l ss vs → IsSurveyOf (run_over l s) v → AreSurveysOf l (ss ++ s ∷ []) (vs ++ v ∷ [])
 one_surveyed l [] [] s v are is = (is, tt)
-one_surveyed l [] (u ∷ vs) s v are is = absurd are
-one_surveyed l (r ∷ ss) [] s v are is = absurd are
 one_surveyed l (r ∷ ss) (u ∷ vs) s v are is = (are.0, one_surveyed l ss vs s v are.1 is)
+one_surveyed l _ _ s v are is = absurd are
 
 -- the surveys of the first schedules, and the one of the next
 pub next_surveyed : (l : Source) (ss : List Schedule) (k : ℕ) (vs : List JudgedSurvey) (s : Schedule)
     (v : JudgedSurvey) → k < length ss → s ≡ get_or ss k s → AreSurveysOf l (take k ss) vs →
     IsSurveyOf (run_over l s) v → AreSurveysOf l (take (k + 1) ss) (vs ++ v ∷ [])
 next_surveyed l ss k vs s v below here are is =
-    subst (λ (xs : List Schedule). AreSurveysOf l xs (vs ++ v ∷ []))
-    (ap (λ (x : Schedule). take k ss ++ x ∷ []) here ∙ sym (take_more ss k s below))
-    (one_surveyed l (take k ss) vs s v are is)
+    rw (take_more ss k s below, ← here) (one_surveyed l (take k ss) vs s v are is)
 
 -- the judgements that surveys rest on
 were_judged : (l : Source) (ss : List Schedule) (vs : List JudgedSurvey) → AreSurveysOf l ss vs →
     (judged : List Failing) × WereJudged l ss judged × (vs ≡ surveys_over l ss judged)
 were_judged l [] [] are = ([], tt, refl)
-were_judged l [] (v ∷ vs) are = absurd are
-were_judged l (s ∷ ss) [] are = absurd are
 were_judged l (s ∷ ss) (v ∷ vs) are =
     let first = are.0 in
-    let rest = were_judged l ss vs are.1 in (
-      first.0 ∷ rest.0,
-      (first.1, rest.1),
-      ap (λ (u : JudgedSurvey). u ∷ vs) first.2
-          ∙ ap (λ (us : List JudgedSurvey). judged_survey (run_over l s) first.0 ∷ us) rest.2,
-    )
+    let rest = were_judged l ss vs are.1 in
+    (first.0 ∷ rest.0, (first.1, rest.1), rw (← first.2, ← rest.2))
+were_judged l _ _ are = absurd are
 
 -- what is written for the schedules that texts are
 pub over_texts : (l : Source) (texts : List (List ℕ)) (ss : List Schedule) (vs : List JudgedSurvey)
@@ -64,12 +56,9 @@ unfolding survey_text are_clean
 over_texts l texts ss vs text clean read are written told =
     let found = were_judged l ss vs are in (
       found.0,
-      λ others is. (let same : others ≡ ss = same_answer (schedules_for l texts) ss others read is in
-          subst (λ (xs : List Schedule). WereJudged l xs found.0) (sym same) found.1),
-      ap (λ (r : Result (List Schedule) Refusal). r >>= λ xs. Ok (surveys_text (surveys_over l xs found.0))) read
-          ∙ ap Ok (sym (written ∙ ap surveys_text found.2)),
-      ap (λ (r : Result (List Schedule) Refusal). r >>= λ xs. Ok (list_all is_clean (surveys_over l xs found.0))) read
-          ∙ ap Ok (sym (told ∙ ap (list_all is_clean) found.2)),
+      λ others is. rw (same_answer (schedules_for l texts) ss others read is) found.1,
+      rw (read, written, ← found.2),
+      rw (read, told, ← found.2),
     )
 
 -- what was judged for an input
@@ -90,9 +79,7 @@ module _ (s : Subject) (parts : List (List ℕ)) (p : Prepared) (is : prepared_s
   of_input (Ok out) h =
       let there = are_prepared s parts p is in (
         h.0,
-        λ m listed. (let same : m ≡ p.source = same_answer (listing_for s parts) p.source m there.listing listed in
-            subst (λ (q : Source). WereJudgedOver q (texts_for s parts) h.0) (sym same)
-            (subst (λ (ts : List (List ℕ)). WereJudgedOver p.source ts h.0) there.texts h.1)),
+        λ m listed. rw (same_answer (listing_for s parts) p.source m there.listing listed, ← there.texts) h.1,
         written_of h.0 ∙ h.2,
         clean_of h.0 ∙ h.3,
       )

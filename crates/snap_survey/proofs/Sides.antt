@@ -1,5 +1,5 @@
 -- Surveys that are made side by side are those that are made one after another.
-use Rattle.std.proofs.Common.{◌≡◌, List, [], ◌∷◌, map, Vec, Result, Ok, Err, Bor, sym, subst}
+use Rattle.std.proofs.Common.{◌≡◌, List, [], ◌∷◌, map, Vec, Result, Ok, Err, Bor}
 use Rattle.std.specs.Prelude.{IfOk, MatchResult}
 use Rattle.std.specs.List.{AllZip, Contains}
 use Rattle.std.specs.Global.{Global}
@@ -19,9 +19,8 @@ IsSurveyed E l s answer = IfOk answer (IsSurveyOf (run_over l s))
 in_order : (E : Type 0) (l : Source) (ss : List Schedule) (vs : List JudgedSurvey) →
     AllZip (IsSurveyed E l) ss (map (λ v. Ok v) vs) → AreSurveysOf l ss vs
 in_order E l [] [] h = tt
-in_order E l [] (v ∷ vs) h = absurd h
-in_order E l (s ∷ ss) [] h = absurd h
 in_order E l (s ∷ ss) (v ∷ vs) h = (h.0, in_order E l ss vs h.1)
+in_order E l _ _ h = absurd h
 
 -- what is collected, if there was no fault
 gathered : (E : Type 0) (l : Source) (ss : List Schedule) (answers : List (Result JudgedSurvey E))
@@ -30,8 +29,7 @@ gathered : (E : Type 0) (l : Source) (ss : List Schedule) (answers : List (Resul
     (λ e. Contains answers (Err e)) →
     IfOk result (λ v. AreSurveysOf l ss v.items)
 gathered E l ss answers (Ok v) each all =
-    subst (AreSurveysOf l ss) (sym all.2)
-    (in_order E l ss all.0 (subst (AllZip (IsSurveyed E l) ss) all.1 each))
+    rw all.2 (in_order E l ss all.0 (rw all.1 at each))
 gathered E l ss answers (Err e) each all = tt
 
 -- a chain side by side over references that show the schedules, whose closure has its program by another way
@@ -43,5 +41,5 @@ pub side_by_side : {E : Type 0} (held program : Source) → held ≡ program →
     (λ e. Contains answers (Err e)) →
     IfOk result (λ v. AreSurveysOf program ss v.items)
 side_by_side {E = E} held program same seen ss shown answers result each all =
-    let zipped = slice-AllZip seen ss shown (IsSurveyed E held) answers each in
-    subst (λ l. IfOk result (λ v. AreSurveysOf l ss v.items)) same (gathered E held ss answers result zipped all)
+    rw (← same) (gathered E held ss answers result
+    (slice-AllZip seen ss shown (IsSurveyed E held) answers each) all)

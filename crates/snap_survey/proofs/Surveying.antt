@@ -1,5 +1,5 @@
 -- A survey is made of what was noted of a run.
-use Rattle.std.proofs.Common.{◌≡◌, ℕ, List, length, ap, ◌∙◌}
+use Rattle.std.proofs.Common.{◌≡◌, ℕ, List, length}
 use Rattle.snap_runs.specs.Audit.{audit}
 use Rattle.snap_runs.specs.Run.{Run}
 use Rattle.snap_runs.specs.Scan.{count}
@@ -31,8 +31,4 @@ survey_by a vs opened skipped = record {
 pub survey_made : (r : Run) (a : Tally) (vs : List Verdict) (opened skipped : ℕ) → a ≡ tally_of r (length r.items) →
     vs ≡ audit r → opened ≡ count (is_open r) 0 r.shape.n → skipped ≡ count (is_skipped r) 0 (length r.items) →
     survey_by a vs opened skipped ≡ survey_of r
-survey_made r a vs opened skipped counted judged is skips =
-    ap (λ (b : Tally). survey_by b vs opened skipped) counted
-    ∙ ap (λ (us : List Verdict). survey_by (tally_of r (length r.items)) us opened skipped) judged
-    ∙ ap (λ k. survey_by (tally_of r (length r.items)) (audit r) k skipped) is
-    ∙ ap (survey_by (tally_of r (length r.items)) (audit r) (count (is_open r) 0 r.shape.n)) skips
+survey_made r a vs opened skipped counted judged is skips = rw (counted, judged, is, skips)

@@ -29,5 +29,5 @@ returns-in_ok-push-in-Answer c = λ r left counted h.
     let given : v ≡ of (get_or cs (e.process - 1) d) c.in-Answer.view =
     c.in_ok-verdict-in-Answer.ensures ∙ ap (of d) c.as_slice.ensures
     ∙ ap (λ x. of x c.in-Answer.view) c.index-caller.ensures in
-    rw c.in_ok-push-in-Answer.ensures.items (answer_swept r xs cs c.args.verdicts.now.items e left h c.in-Answer.view v c.args.collects
-    d c.in-Answer.is counted given)
+    rw c.in_ok-push-in-Answer.ensures.items (answer_swept r xs cs c.args.verdicts.now.items e left h c.in-Answer.view v
+    c.args.collects d c.in-Answer.is counted given)

@@ -1,8 +1,5 @@
 -- `survey_runs_in_threads` of snap_survey (src/survey_output.rt): the proof of what its contract says.
-use Rattle.std.proofs.Common.{◌∙◌, ap, map, sym}
-use Rattle.std.specs.List.{list_all}
-use Rattle.snap_survey.specs.SurveyText.{surveys_text}
-use Rattle.snap_survey.specs.Surveys.{is_clean}
+use Rattle.std.proofs.Common.{map}
 use Rattle.snap_survey.proofs.Judging.{over_texts}
 use Rattle.snap_survey.proofs.survey_output.survey_runs_in_threads.Goals as goal
 
@@ -11,6 +8,5 @@ returns g c =
     let out = c.in_ok-output_of.ensures in
     over_texts c.args.program.now (map (λ text. text.now) c.args.texts.now) c.in_ok-schedules.schedules.items
     c.in_ok-surveys.surveys.items c.in_ok-output_of.field-0.text.items c.in_ok-output_of.field-0.clean
-    c.in_ok-schedules.ensures (rw (sym c.as_slice.ensures.value) c.in_ok-surveys.ensures)
-    (out.text ∙ ap surveys_text c.as_slice-2.ensures.value)
-    (out.clean ∙ ap (list_all is_clean) c.as_slice-2.ensures.value)
+    c.in_ok-schedules.ensures (rw (← c.as_slice.ensures.value) c.in_ok-surveys.ensures)
+    (rw c.as_slice-2.ensures.value at out.text) (rw c.as_slice-2.ensures.value at out.clean)

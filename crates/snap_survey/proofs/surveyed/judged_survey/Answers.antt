@@ -1,5 +1,5 @@
 -- `judged_survey` of snap_survey (src/surveyed.rt): the proof of what its contract says.
-use Rattle.std.proofs.Common.{ap, refl, subst, ◌∙◌}
+use Rattle.std.proofs.Common.{ap, subst, ◌∙◌}
 use Rattle.snap_runs.specs.Run.{IsValidRun, events_of}
 use Rattle.snap_run_judge.proofs.Shown.{is_history}
 use Rattle.snap_audit.proofs.Watches.{whole_way}
@@ -24,8 +24,5 @@ returns g c =
     (subst IsValidRun (whole_way w c.requires.end) c.requires.watch.notes.fits)
     (c.program.ensures.value ∙ c.machine-machine.ensures.source)
     (c.shape.ensures.shape ∙ c.machine-machine.ensures.shape)
-    (c.into_events.ensures w c.requires.watch ∙ ap (events_of w.run) c.requires.end) in (
-      c.in_ok-failing.failing,
-      c.in_ok-failing.ensures w.run h,
-      rw (c.in_ok-survey.ensures, c.word_of.ensures) refl,
-    )
+    (c.into_events.ensures w c.requires.watch ∙ ap (events_of w.run) c.requires.end) in
+    (c.in_ok-failing.failing, c.in_ok-failing.ensures w.run h, rw (c.in_ok-survey.ensures, c.word_of.ensures))

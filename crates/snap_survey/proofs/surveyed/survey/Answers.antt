@@ -1,7 +1,6 @@
 -- `survey` of snap_survey (src/surveyed.rt): the proof of what its contract says.
 use Rattle.std.proofs.Common.{IfOk, subst, ◌∙◌}
 use Rattle.snap_runs.specs.Run.{Run}
-use Rattle.snap_walk.specs.Walk.{PassesOver, Tells}
 use Rattle.snap_audit.proofs.Watches.{fewer_left, same_run, silent_here, watched_all}
 use Rattle.snap_survey.specs.Survey.{IsSurveyOf}
 use Rattle.snap_survey.proofs.Tallies.{tallied_over}
@@ -13,9 +12,7 @@ note-requires-clause-passed g c κs within = (
   record {
     tally = c.loop-watch.invariant.tally;
     quiet = c.silent_lines.result.now;
-    tells =
-        subst (λ skips. Tells c.silent_lines.result.now skips c.loop-watch.walk c.in-Some.passed c.next_told.new.self)
-        c.seeks_skip.ensures (rw c.in-Some.is at c.in_ok-passed.ensures.told);
+    tells = rw (c.in-Some.is, c.seeks_skip.ensures) at c.in_ok-passed.ensures.told;
   },
 )
 
@@ -37,35 +34,26 @@ pub loop-watch-preserved : goal.loop-watch-preserved
 loop-watch-preserved g c =
     let told = rw c.in-Some.is at c.in_ok-passed.ensures.told in
     record {
-      run =
-          same_run c.silent_lines.result.now c.seeks_skip.result c.loop-watch.walk c.next_told.new.self c.in-Some.passed told
-          ∙ c.loop-watch.invariant.run;
+      run = same_run _ _ _ _ _ told ∙ c.loop-watch.invariant.run;
       watches = c.in_ok-note.ensures.watches;
       tally = c.note.ensures;
     }
 
 pub loop-watch-smaller : goal.loop-watch-smaller
-loop-watch-smaller g c =
-    fewer_left c.silent_lines.result.now c.seeks_skip.result c.loop-watch.walk c.next_told.new.self c.in-Some.passed
-    (rw c.in-Some.is at c.in_ok-passed.ensures.told)
+loop-watch-smaller g c = fewer_left _ _ _ _ _ (rw c.in-Some.is at c.in_ok-passed.ensures.told)
 
 pub judged_survey-requires-clause-end : goal.judged_survey-requires-clause-end
-judged_survey-requires-clause-end g c κs within =
-    let none = rw c.in_default.is at c.in_ok-passed.ensures.told in
-    none.end
+judged_survey-requires-clause-end g c κs within = (rw c.in_default.is at c.in_ok-passed.ensures.told).end
 
 pub judged_survey-requires-clause-watch : goal.judged_survey-requires-clause-watch
 judged_survey-requires-clause-watch g c κs within =
-    let none = rw c.in_default.is at c.in_ok-passed.ensures.told in
-    watched_all c.silent_lines.result.now c.seeks_skip.result c.loop-watch.watch c.loop-watch.walk c.next_told.new.self
-    c.silent_lines.ensures none c.loop-watch.invariant.watches
+    watched_all _ _ _ _ _ c.silent_lines.ensures (rw c.in_default.is at c.in_ok-passed.ensures.told)
+    c.loop-watch.invariant.watches
 
 pub judged_survey-requires-clause-tally : goal.judged_survey-requires-clause-tally
 judged_survey-requires-clause-tally g c κs within =
-    let none = rw c.in_default.is at c.in_ok-passed.ensures.told in
-    tallied_over c.silent_lines.result.now c.loop-watch.tally c.loop-watch.walk c.next_told.new.self
-    (subst (λ skips. PassesOver c.silent_lines.result.now skips c.loop-watch.walk c.next_told.new.self)
-    c.seeks_skip.ensures none.over) c.loop-watch.invariant.tally
+    tallied_over c.silent_lines.result.now _ _ _
+    (rw (c.in_default.is, c.seeks_skip.ensures) at c.in_ok-passed.ensures.told).over c.loop-watch.invariant.tally
 
 pub returns : goal.returns
 returns g c =

@@ -1,8 +1,9 @@
 -- A whole run of the program, from a byte source to a byte sink.
-use Rattle.std.specs.Prelude.{◌≡◌, ℕ, ◌<◌, ◌≤◌, Vec, Bool, true, List, [], false, take}
-use Rattle.std.specs.Prelude.{Result, Ok, Err, length, ⊤, ◌⊎◌}
+use Rattle.std.specs.Prelude.{◌≡◌, ℕ, ◌+◌, ◌<◌, ◌≤◌, Vec, Bool, true, List, [], false, take}
+use Rattle.std.specs.Prelude.{Result, Ok, Err, IfOk, length, ⊤, ◌⊎◌}
 use Rattle.std.specs.Global.{Global}
 use Rattle.std.specs.Io.KnownBytes.{Consumes, Appends, IsAtEnd}
+use Rattle.snap_input.specs.Parts.{max_input}
 use Rattle.snap_live_output.specs.LiveOutput.{MayGiveUp, MayWrite, setup_of}
 use Rattle.snap_live_output.specs.Uncalled.{MayTell}
 use Rattle.snap_judge.specs.declared.linearizability.Linearizability.{Linearizability}
@@ -12,16 +13,17 @@ use Rattle.snap_program.specs.ModelOutput.{MayModel, RefusesModel}
 use Rattle.snap_streams.specs.State.{SourceState, SinkState}
 use Rattle.snap_tasks.specs.declared.judge_request.JudgeRequest.{JudgeRequest}
 use Rattle.snap_tasks.specs.declared.subject.Subject.{Subject}
+use Rattle.snap_faults.specs.Told.{Sends}
 use Rattle.snap_faults.specs.declared.fault.ProgramFault.{ProgramFault}
 use Rattle.snap_faults.specs.declared.fault.ProgramFault.TheVariants as fault
 
 -- the input is all that was there, or one byte more than is allowed
 abbrev pub IsWhole : List ℕ → (source_after : SourceState) → Type 0
-IsWhole input source_after = (length input ≡ 16777217) ⊎ IsAtEnd source_after.left
+IsWhole input source_after = (length input ≡ max_input + 1) ⊎ IsAtEnd source_after.left
 
 -- what a run read of a byte source: at most one byte more than is allowed
 abbrev pub Takes : List ℕ → (source source_after : SourceState) → Type 0
-Takes input source source_after = Consumes source.left source_after.left input × (length input ≤ 16777217)
+Takes input source source_after = Consumes source.left source_after.left input × (length input ≤ max_input + 1)
 
 -- reading took an input, whole where it answers one; or it failed, or found no memory
 abbrev pub Reads : Result (Vec ℕ Global) ProgramFault → (source source_after : SourceState) → Type 0
@@ -74,13 +76,13 @@ IsKept (Err (fault.History f)) kept input = kept ≡ input
 IsKept _ kept input = ⊤
 
 -- A whole run that keeps its input.
-abbrev pub ConductsKeeping : (IsOutput : (input text : List ℕ) → Type 0)
+pub record ConductsKeeping (IsOutput : (input text : List ℕ) → Type 0)
     (Refuses : (input : List ℕ) → ProgramFault → Type 0) (kept : List ℕ)
     (answer : Result (Unit {0}) ProgramFault) (source source_after : SourceState)
-    (sink sink_after : SinkState) → Type 0
-ConductsKeeping IsOutput Refuses kept answer source source_after sink sink_after =
-    (input : List ℕ) × IsKept answer kept input
-    × ConductsOn IsOutput Refuses input answer source source_after sink sink_after
+    (sink sink_after : SinkState) : Type 0 where
+  pub input : List ℕ
+  pub is_kept : IsKept answer kept input
+  pub conducts : ConductsOn IsOutput Refuses input answer source source_after sink sink_after
 
 -- why a live run writes nothing: the input is refused, or the run is given up
 abbrev pub RefusesLive : (may : ℕ → ℕ → Bool → Type 0) → Subject → (limit : ℕ) →
@@ -93,6 +95,12 @@ RefusesLive may subject limit input _ = ⊥
 abbrev pub done_of : {A : Type 0} → Result A ProgramFault → Result (Unit {0}) ProgramFault
 done_of (Ok found) = Ok tt
 done_of (Err e) = Err e
+
+-- A text was sent to a sink; what was found is answered, where all of the text was taken.
+pub record Delivers {A : Type 0} (answer : Result A ProgramFault) (text : List ℕ) (found : A)
+    (sink sink_after : SinkState) : Type 0 where
+  pub sends : Sends (done_of answer) text sink sink_after
+  pub answers : IfOk answer (λ a. a ≡ found)
 
 -- an output of a live run, and what is said of the calls that it skipped, where that is answered
 abbrev pub IsLiveOf : Result (Vec ℕ Global) ProgramFault → (may : ℕ → ℕ → Bool → Type 0) → Subject → (limit : ℕ) →
@@ -140,4 +148,4 @@ abbrev pub ConductsModel : (subject : Subject) (kept : List ℕ) (answer : Resul
     (source source_after : SourceState) (sink sink_after : SinkState) → Type 0
 ConductsModel subject kept answer source source_after sink sink_after =
     ConductsKeeping (λ input text. MayModel subject input) (RefusesModel subject) kept
-    answer source source_after sink sink_after
+    (done_of answer) source source_after sink sink_after

@@ -3,8 +3,8 @@
 ghost use Rattle.std.specs.Prelude.{◌≡◌, false};
 ghost use Rattle.snap_program.specs.WholeRun.{ConductsJudge};
 
-use crate::whole_texts::read_all;
-use snap_faults::{ProgramFault, write_all};
+use crate::whole_texts::{deliver, read_all};
+use snap_faults::ProgramFault;
 use snap_judge_task::{Linearizability, judge_input};
 use snap_streams::{ByteSink, ByteSource};
 use snap_tasks::JudgeRequest;
@@ -29,9 +29,7 @@ pub fn conduct_judge<R: ByteSource, W: ByteSink>(
     ensures { ConductsJudge request.now kept.new.items result (R.state source.old)
         (R.state source.new) (W.state sink.old) (W.state sink.new) }
 {
-    let input = read_all(alloc, source)?;
-    *kept = input;
+    *kept = read_all(alloc, source)?;
     let found = judge_input(alloc, request, kept.as_slice())?;
-    write_all(sink, found.text.as_slice())?;
-    Ok(found.word)
+    deliver(found.text, found.word, sink)
 }

@@ -4,8 +4,8 @@ ghost use Rattle.std.specs.Prelude.{◌≡◌, ◌≤◌, false};
 ghost use Rattle.snap_words.specs.Shape.{max_items};
 ghost use Rattle.snap_program.specs.WholeRun.{ConductsLive, ConductsLiveKeeping};
 
-use crate::whole_texts::read_all;
-use snap_faults::{ProgramFault, write_all};
+use crate::whole_texts::{deliver, done_of, read_all};
+use snap_faults::ProgramFault;
 use snap_live::Gate;
 use snap_live_output::live_output;
 use snap_streams::{ByteSink, ByteSource};
@@ -53,8 +53,7 @@ pub fn conduct_live<G: Gate, R: ByteSource, W: ByteSink>(
         limit,
         gate,
     };
-    conduct_live_keeping(rt, alloc, &task, source, sink, &mut kept)?;
-    Ok(())
+    done_of(conduct_live_keeping(rt, alloc, &task, source, sink, &mut kept))
 }
 
 /// Does what `conduct_live` does, and returns the text on the operations in the scripts that call
@@ -80,8 +79,7 @@ pub fn conduct_live_keeping<G: Gate, R: ByteSource, W: ByteSink>(
         kept.new.items result (R.state source.old) (R.state source.new) (W.state sink.old)
         (W.state sink.new) }
 {
-    let input = read_all(alloc, source)?;
-    *kept = input;
+    *kept = read_all(alloc, source)?;
     let found = live_output(
         rt,
         alloc,
@@ -90,6 +88,5 @@ pub fn conduct_live_keeping<G: Gate, R: ByteSource, W: ByteSink>(
         task.gate,
         kept.as_slice(),
     )?;
-    write_all(sink, found.text.as_slice())?;
-    Ok(found.uncalled)
+    deliver(found.text, found.uncalled, sink)
 }

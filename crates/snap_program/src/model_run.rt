@@ -4,8 +4,8 @@ ghost use Rattle.std.specs.Prelude.{◌≡◌, false};
 ghost use Rattle.snap_program.specs.WholeRun.{ConductsModel};
 
 use crate::output::model_output;
-use crate::whole_texts::read_all;
-use snap_faults::{ProgramFault, write_all};
+use crate::whole_texts::{deliver, read_all};
+use snap_faults::ProgramFault;
 use snap_streams::{ByteSink, ByteSource};
 use snap_tasks::Subject;
 use std::alloc::Global;
@@ -32,8 +32,7 @@ pub fn conduct_model<R: ByteSource, W: ByteSink>(
     ensures { ConductsModel subject kept.new.items result (R.state source.old)
         (R.state source.new) (W.state sink.old) (W.state sink.new) }
 {
-    let input = read_all(alloc, source)?;
-    *kept = input;
+    *kept = read_all(alloc, source)?;
     let text = model_output(alloc, subject, crashes, kept.as_slice())?;
-    write_all(sink, text.as_slice())
+    deliver(text, (), sink)
 }

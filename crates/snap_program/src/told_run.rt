@@ -11,8 +11,8 @@ ghost use Rattle.snap_tasks.specs.declared.task.Task.TheVariants.{Run};
 
 use crate::skipped::skipped_text;
 use crate::whole_run::run_kept;
-use crate::whole_texts::read_all;
-use snap_faults::{ProgramFault, write_all};
+use crate::whole_texts::{deliver, read_all};
+use snap_faults::ProgramFault;
 use snap_semantics::{Fault, Refusal};
 use snap_streams::{ByteSink, ByteSource};
 use snap_tasks::Subject;
@@ -58,9 +58,7 @@ pub fn conduct_telling<R: ByteSource, W: ByteSink>(
     ensures { ConductsTelling result subject kept.new.items (R.state source.old)
         (R.state source.new) (W.state sink.old) (W.state sink.new) }
 {
-    let input = read_all(alloc, source)?;
-    *kept = input;
+    *kept = read_all(alloc, source)?;
     let found = told_run(alloc, subject, kept)?;
-    write_all(sink, found.text.as_slice())?;
-    Ok(found.told)
+    deliver(found.text, found.told, sink)
 }

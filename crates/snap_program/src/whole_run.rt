@@ -8,8 +8,8 @@ ghost use Rattle.snap_output.specs.Output.{AnswersOutput, output_of};
 ghost use Rattle.snap_program.specs.TaskRun.{Conducts, ConductsTask};
 ghost use Rattle.snap_tasks.specs.declared.task.Task.TheVariants.{Run};
 
-use crate::whole_texts::read_all;
-use snap_faults::{ProgramFault, write_all};
+use crate::whole_texts::{deliver, done_of, read_all};
+use snap_faults::ProgramFault;
 use snap_output::{Output, output, planned_run, run_planned};
 use snap_semantics::{Fault, Refusal};
 use snap_streams::{ByteSink, ByteSource};
@@ -74,8 +74,7 @@ pub fn conduct<R: ByteSource, W: ByteSink>(
         (W.state sink.new) }
 {
     let mut kept = Vec::new(alloc);
-    conduct_keeping(rt, alloc, task, source, sink, &mut kept)?;
-    Ok(())
+    done_of(conduct_keeping(rt, alloc, task, source, sink, &mut kept))
 }
 
 /// Does what `conduct` does, and returns whether all runs that are surveyed are clean, as those of
@@ -98,9 +97,7 @@ pub fn conduct_keeping<R: ByteSource, W: ByteSink>(
     ensures { ConductsTask result task.now kept.new.items (R.state source.old) (R.state source.new)
         (W.state sink.old) (W.state sink.new) }
 {
-    let input = read_all(alloc, source)?;
-    *kept = input;
+    *kept = read_all(alloc, source)?;
     let found = kept_output(rt, alloc, task, kept)?;
-    write_all(sink, found.text.as_slice())?;
-    Ok(found.clean)
+    deliver(found.text, found.clean, sink)
 }

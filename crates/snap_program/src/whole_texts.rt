@@ -1,10 +1,10 @@
-//! `read_all`: an input that is read whole.
+//! `read_all`: an input that is read whole; and `deliver`: an output that is written whole.
 ghost use Rattle.std.specs.Prelude.{◌≡◌, false};
-ghost use Rattle.snap_program.specs.WholeRun.{Reads};
+ghost use Rattle.snap_program.specs.WholeRun.{Delivers, Reads, done_of};
 
-use snap_faults::ProgramFault;
+use snap_faults::{ProgramFault, write_all};
 use snap_input::MAX_INPUT;
-use snap_streams::ByteSource;
+use snap_streams::{ByteSink, ByteSource};
 use std::alloc::Global;
 
 /// The bytes of one read.
@@ -30,4 +30,29 @@ pub fn read_all<R: ByteSource>(alloc: Global, source: &mut R) -> Result<Vec<u8>,
         }
     }
     Ok(input)
+}
+
+/// Writes all of an output, and returns what else was found for it.
+///
+/// # Errors
+///
+/// `Write(count)` where the sink has taken its first `count` bytes, and no more.
+pub(crate) fn deliver<A: Drop, W: ByteSink>(
+    text: Vec<u8>,
+    found: A,
+    sink: &mut W,
+) -> Result<A, ProgramFault>
+    requires { (W.state sink.old).failed ≡ false }
+    ensures { Delivers result text.items found (W.state sink.old) (W.state sink.new) }
+{
+    write_all(sink, text.as_slice())?;
+    Ok(found)
+}
+
+/// Returns how a whole run ended, without what it found.
+pub(crate) fn done_of<A: Drop>(answer: Result<A, ProgramFault>) -> Result<(), ProgramFault>
+    ensures { result ≡ done_of answer }
+{
+    answer?;
+    Ok(())
 }

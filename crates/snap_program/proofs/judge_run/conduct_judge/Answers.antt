@@ -1,67 +1,21 @@
 -- `conduct_judge` of snap_program (src/judge_run.rt): the proof of what its contract says.
-use Rattle.std.specs.Prelude.{Ok}
-use Rattle.snap_program.specs.WholeRun.{IsJudgeOf, RefusesJudge, done_of}
-use Rattle.snap_program.proofs.Runs.{is_kept, not_read, passed_on, refused, sends, some_word, stops, why_judge}
+use Rattle.snap_program.specs.WholeRun.{IsJudgeOf}
+use Rattle.snap_program.proofs.Runs.{is_kept, not_read, refused, sends, why_judge}
 use Rattle.snap_program.proofs.judge_run.conduct_judge.Goals as goal
 
-pub returns-in_err-input : goal.returns-in_err-input
-returns-in_err-input g c =
-    let answer = c.from_residual.result in
-    let fault = c.in_err-input.field-0.0 in
-    not_read (IsJudgeOf answer c.args.request.now) (RefusesJudge c.args.request.now)
-    (done_of answer) fault c.args.kept.now.items
-    (g.R.ByteSource.state c.args.source.now) (g.R.ByteSource.state c.read_all.new.source)
-    (g.W.ByteSink.state c.args.sink.now)
-    (passed_on answer fault c.from_residual.ensures) c.in_err-input.ensures
+pub returns-in_err-kept : goal.returns-in_err-kept
+returns-in_err-kept g c =
+    not_read c.from_residual.result c.in_err-kept.field-0.0 c.from_residual.ensures c.in_err-kept.ensures
 
 pub returns-in_err-found : goal.returns-in_err-found
 returns-in_err-found g c =
-    let read = c.in_ok-input.ensures in
-    let answer = c.from_residual-in_err-found.result in
-    let why = c.in_err-found.field-0.0 in (
-      c.in_ok-input.input.items,
-      is_kept (done_of answer) c.in_ok-input.input.items,
-      refused (IsJudgeOf answer c.args.request.now) (RefusesJudge c.args.request.now)
-          (done_of answer) why c.in_ok-input.input.items c.as_slice.result.now
-          (g.R.ByteSource.state c.args.source.now) (g.R.ByteSource.state c.read_all.new.source)
-          (g.W.ByteSink.state c.args.sink.now)
-          (passed_on answer why c.from_residual-in_err-found.ensures)
-          c.as_slice.ensures.value read.0 read.1
-          (why_judge why c.args.request.now c.as_slice.result.now c.in_err-found.ensures.answers),
-    )
-
-pub returns-in_err-write_all : goal.returns-in_err-write_all
-returns-in_err-write_all g c =
-    let read = c.in_ok-input.ensures in
-    let found = c.in_ok-found.ensures.answers in
-    let answer = c.from_residual-in_err-write_all.result in
-    let fault = c.in_err-write_all.field-0.0 in (
-      c.in_ok-input.input.items,
-      is_kept (done_of answer) c.in_ok-input.input.items,
-      sends (IsJudgeOf answer c.args.request.now) (RefusesJudge c.args.request.now)
-          (done_of answer) c.in_ok-input.input.items c.as_slice.result.now
-          c.in_ok-found.found.text.items c.as_slice-2.result.now
-          (g.R.ByteSource.state c.args.source.now) (g.R.ByteSource.state c.read_all.new.source)
-          (g.W.ByteSink.state c.args.sink.now) (g.W.ByteSink.state c.write_all.new.sink)
-          c.as_slice.ensures.value c.as_slice-2.ensures.value read.0 read.1
-          (some_word answer fault c.args.request.now c.as_slice.result.now c.in_ok-found.found.text.items
-          c.in_ok-found.found.word c.from_residual-in_err-write_all.ensures found)
-          (stops answer fault c.as_slice-2.result.now (g.W.ByteSink.state c.args.sink.now)
-          (g.W.ByteSink.state c.write_all.new.sink)
-          c.from_residual-in_err-write_all.ensures c.in_err-write_all.ensures),
-    )
+    let from = c.from_residual-in_err-found in let fault = c.in_err-found.field-0.0 in
+    refused from.result fault from.ensures c.in_ok-kept.field-0 c.in_ok-kept.ensures c.as_slice.ensures.value
+    (is_kept fault c.in_ok-kept.field-0.items)
+    (why_judge fault c.args.request.now c.as_slice.result.now c.in_err-found.ensures.answers)
 
 pub returns : goal.returns
 returns g c =
-    let read = c.in_ok-input.ensures in
     let found = c.in_ok-found.ensures.answers in
-    let word = c.in_ok-found.found.word in (
-      c.in_ok-input.input.items,
-      is_kept (Ok tt) c.in_ok-input.input.items,
-      sends (IsJudgeOf (Ok word) c.args.request.now) (RefusesJudge c.args.request.now)
-          (Ok tt) c.in_ok-input.input.items c.as_slice.result.now c.in_ok-found.found.text.items c.as_slice-2.result.now
-          (g.R.ByteSource.state c.args.source.now) (g.R.ByteSource.state c.read_all.new.source)
-          (g.W.ByteSink.state c.args.sink.now) (g.W.ByteSink.state c.write_all.new.sink)
-          c.as_slice.ensures.value c.as_slice-2.ensures.value read.0 read.1
-          found c.in_ok-write_all.ensures,
-    )
+    sends (λ answer. IsJudgeOf answer c.args.request.now) c.in_ok-kept.field-0 c.in_ok-kept.ensures
+    c.as_slice.ensures.value found (λ e. (c.in_ok-found.found.word, found)) c.deliver.ensures

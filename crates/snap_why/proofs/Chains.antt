@@ -1,6 +1,6 @@
 -- What `why` prints of a chain of borrowed views: after a scan comes the lender, whose view it took, and so on.
 use Rattle.std.proofs.Common.{◌≡◌, ◌<◌, ◌≤◌, ◌-◌, ◌++◌, ◌∙◌, ℕ, zero, suc, List, Option, Some, None, IfSome, sym}
-use Rattle.std.proofs.Common.{subst, append_assoc, append-nil, arith}
+use Rattle.std.proofs.Common.{append_assoc, append-nil, arith}
 use Rattle.snap_acts.specs.declared.act.TraceStep.{TraceStep}
 use Rattle.snap_acts.specs.Loans.{view_taken}
 use Rattle.snap_acts.specs.declared.loans.Borrowed.{Borrowed}
@@ -12,27 +12,20 @@ pub goes_on : (ss : List TraceStep) (next : Option ScanPlaces) (s : ScanPlaces) 
     (out out' all : List ℕ) (v : Option Borrowed) (l : Option ScanPlaces) →
     0 < left → next ≡ Some s → v ≡ view_taken ss s → l ≡ lender_of v → out' ≡ out ++ view_lines ss s.process v →
     out ++ chain_lines ss next left ≡ all → out' ++ chain_lines ss l (left - 1) ≡ all
-goes_on ss next s zero out out' all v l some is taken lends told so_far = absurd (omega (arith, some))
+goes_on ss next s zero out out' all v l some is taken lends told so_far = absurd (omega arith)
 goes_on ss next s (suc left) out out' all v l some is taken lends told so_far =
     let m : suc left - 1 ≡ left = omega arith in
-    let all_of : out ++ chain_lines ss (Some s) (suc left) ≡ all =
-    subst (λ (x : Option ScanPlaces). out ++ chain_lines ss x (suc left) ≡ all) is so_far in
-    rw (m, lends, told, taken)
-    (append_assoc out (view_lines ss s.process (view_taken ss s)) (chain_lines ss (lender_of (view_taken ss s)) left)
-    ∙ all_of)
+    rw (m, lends, told, taken, append_assoc) (rw is at so_far)
 
 -- where there is no scan, nothing is left to tell
 pub ends : (ss : List TraceStep) (next : Option ScanPlaces) (left : ℕ) (out all : List ℕ) →
     next ≡ None → out ++ chain_lines ss next left ≡ all → out ≡ all
 ends ss next zero out all none so_far = sym (append-nil out) ∙ so_far
-ends ss next (suc left) out all none so_far =
-    sym (append-nil out)
-    ∙ subst (λ (x : Option ScanPlaces). out ++ chain_lines ss x (suc left) ≡ all) none so_far
+ends ss next (suc left) out all none so_far = sym (append-nil out) ∙ (rw none at so_far)
 
 -- the lender's scan lies in the trace
 pub lender_within : (v : Option Borrowed) (l : Option ScanPlaces) (n : ℕ) → l ≡ lender_of v →
     IfSome v (λ (b : Borrowed). IfSome b.lender (λ (s : ScanPlaces). s.to ≤ n)) →
     IfSome l (λ (s : ScanPlaces). s.to ≤ n)
-lender_within None l n e within = subst (λ (x : Option ScanPlaces). IfSome x (λ (s : ScanPlaces). s.to ≤ n)) (sym e) tt
-lender_within (Some b) l n e within =
-    subst (λ (x : Option ScanPlaces). IfSome x (λ (s : ScanPlaces). s.to ≤ n)) (sym e) within
+lender_within None l n e within = rw e tt
+lender_within (Some b) l n e within = rw e within

@@ -1,6 +1,6 @@
 -- The trace of a run has a step for each item, and each is of one of the processes.
-use Rattle.std.proofs.Common.{◌≡◌, ◌+◌, ◌<◌, ◌≤◌, ℕ, zero, suc, List, [], ◌∷◌, length, Option, Some, None, IfSome}
-use Rattle.std.proofs.Common.{refl, sym, ap, subst, take, arith}
+use Rattle.std.proofs.Common.{◌≡◌, ◌+◌, ◌<◌, ◌≤◌, ℕ, zero, suc, List, [], ◌∷◌, length, IfSome}
+use Rattle.std.proofs.Common.{refl, ap, take, arith}
 use Rattle.std.specs.List.{AllByRecursion}
 use Rattle.snap_words.specs.Shape.{Counts, IsOneOf}
 use Rattle.snap_semantics.specs.declared.process.Item.{Item}
@@ -16,7 +16,6 @@ use Rattle.snap_record.specs.Record.{with_items}
 use Rattle.snap_acts.specs.Trace.{step_of, steps_of, trace_of}
 use Rattle.snap_acts.specs.declared.act.Act.{Act}
 use Rattle.snap_acts.specs.declared.act.Act.TheVariants as act
-use Rattle.snap_acts.specs.declared.act.TraceStep.{TraceStep}
 use Rattle.snap_acts.specs.Loans.{step_at}
 use Rattle.snap_why.specs.Why.{trapped_at, trapped_by}
 
@@ -33,46 +32,20 @@ each : (s : Source) (n : Counts) (S : State) (t : ℕ) (xs : List Item) (k : ℕ
     AllByRecursion (λ (x : Item). IsOneOf n.n (who x)) xs → k < length xs →
     IsOneOf n.n (step_at (steps_of s n S t xs) k).process
 unfolding step_of
-each s n S t [] k all less = absurd (omega (arith, less))
+each s n S t [] k all less = absurd (omega arith)
 each s n S t (x ∷ xs) zero all less = all.0
-each s n S t (x ∷ xs) (suc k) all less =
-    let fewer : k < length xs = omega (arith, less) in
-    each s n (done s n S x).0 (t + 1) xs k all.1 fewer
+each s n S t (x ∷ xs) (suc k) all less = each s n (done s n S x).0 (t + 1) xs k all.1 (omega arith)
 
-by_act : (i j : ℕ) (a : Act) → trapped_by i a ≡ Some j → i ≡ j
-by_act i j act.Trap e = cc
-by_act i j (act.Call op) e = absurd cc
-by_act i j (act.Answer view x) e = absurd cc
-by_act i j act.Done e = absurd cc
-by_act i j act.Crash e = absurd cc
-by_act i j act.Skip e = absurd cc
-by_act i j (act.Write word values x) e = absurd cc
-by_act i j (act.Publish k x) e = absurd cc
-by_act i j (act.Read word spot) e = absurd cc
-by_act i j (act.Look k x) e = absurd cc
-by_act i j (act.Borrow spot x) e = absurd cc
-by_act i j (act.Collect x) e = absurd cc
-by_act i j (act.Test passed) e = absurd cc
-by_act i j act.Enter e = absurd cc
-by_act i j (act.Leave x) e = absurd cc
-by_act i j act.Other e = absurd cc
+by_act : (n i : ℕ) (a : Act) → IsOneOf n i → IfSome (trapped_by i a) (λ (j : ℕ). IsOneOf n j)
+by_act n i act.Trap one = one
+by_act n i _ one = tt
 
 -- a process that traps at an item is one
-pub one_of : (s : Source) (d : Schedule) (t i : ℕ) → IsSchedule d → t ≤ length d.items →
-    trapped_at (trace_of (run_over s d)) t ≡ Some i → IsOneOf d.shape.n i
-one_of s d zero i right within e = absurd cc
-one_of s d (suc k) i right within e =
-    let less : k < length d.items = omega (arith, within) in
-    subst (λ (j : ℕ). IsOneOf d.shape.n j) (by_act _ i _ e)
-    (each s d.shape (initial s d.shape) 1 d.items k right.processes less)
-
--- a place that is found in the trace is that of an item of the run
-pub all_of : (s : Source) (d : Schedule) (ss : List TraceStep) (t : ℕ) (r : Option ℕ) →
-    IsSchedule d → ss ≡ trace_of (run_over s d) → t ≤ length d.items →
-    r ≡ trapped_at ss t → IfSome r (λ (i : ℕ). IsOneOf d.shape.n i)
-all_of s d ss t None right is within e = tt
-all_of s d ss t (Some i) right is within e =
-    one_of s d t i right within (subst (λ (xs : List TraceStep). trapped_at xs t ≡ Some i) is (sym e))
+pub trapped_one : (s : Source) (d : Schedule) (t : ℕ) → IsSchedule d → t ≤ length d.items →
+    IfSome (trapped_at (trace_of (run_over s d)) t) (λ (i : ℕ). IsOneOf d.shape.n i)
+trapped_one s d zero right within = tt
+trapped_one s d (suc k) right within =
+    by_act d.shape.n _ _ (each s d.shape (initial s d.shape) 1 d.items k right.processes (omega arith))
 
 -- the run of the first items ends as that of all is after them
 pub first_items : (r : Run) (s : Source) (d : Schedule) (c : ℕ) →

@@ -11,7 +11,7 @@ loop-left-preserved c = (
         held.0,
         goes_on c.args.steps.now c.loop-left.next c.in-Some.scan c.loop-left.left c.loop-left.out.text
             c.push_view.new.out.text _ c.view_taken-view.result
-            c.lender_of-next.result (let t = c.loop-left-test.true in omega (arith, t)) c.in-Some.is
+            c.lender_of-next.result (omega (arith, c.loop-left-test.true)) c.in-Some.is
             c.view_taken-view.ensures.view c.lender_of-next.ensures added.1 held.1,
       ),
   lender_within c.view_taken-view.result c.lender_of-next.result _ c.lender_of-next.ensures

@@ -8,6 +8,6 @@ returns-in-Some g c =
     let m = c.args.machine.now in
     value_found m.shape m.state c.args.taker c.at.result c.args.expr.now c.args.condition.now c.loop-left.place
     c.loop-left.left c.in-Some.trouble
-    c.value_trouble-found.result (let t = c.loop-left-test.true in omega (arith, t)) c.at.ensures
+    c.value_trouble-found.result (omega (arith, c.loop-left-test.true)) c.at.ensures
     c.value_trouble-found.ensures c.in-Some.is
     ∙ c.loop-left.invariant.0

@@ -1,11 +1,10 @@
 -- A refusal that is found at once is handed to the page without memory: `needs_no_memory` holds of each refusal of
 -- `found_at_once`.
-use Rattle.std.proofs.Common.{◌≡◌, ℕ, Bool, true, false, List, [], ◌∷◌, length, nat_lt, nat_le, nat_eq, ◌&&◌, refl}
-use Rattle.std.specs.Prelude.{Option, Some, None, Result, Ok, Err, option_map, bytes_eq, take, drop, if◌then◌else◌}
+use Rattle.std.proofs.Common.{◌≡◌, ℕ, Bool, true, false, List, [], ◌∷◌, length, nat_lt, refl}
+use Rattle.std.specs.Prelude.{Option, Some, None, Ok, Err, option_map, bytes_eq, take, drop, if◌then◌else◌}
 use Rattle.snap_image.specs.Image.{signature}
 use Rattle.snap_image.specs.ImageCodes.{of_code, versions}
 use Rattle.snap_image.specs.declared.image.ImageVersion.{ImageVersion}
-use Rattle.snap_semantics.specs.declared.refusal.ImageRefusal.{ImageRefusal}
 use Rattle.snap_semantics.specs.declared.refusal.ImageRefusal.TheVariants as image
 use Rattle.snap_semantics.specs.declared.refusal.ListingRefusal.TheVariants as listing
 use Rattle.snap_semantics.specs.declared.refusal.Refusal.{Refusal}
@@ -13,7 +12,7 @@ use Rattle.snap_semantics.specs.declared.refusal.Refusal.TheVariants as refusal
 use Rattle.snap_input.specs.Parts.{parts_of, max_input}
 use Rattle.snap_output.specs.AtOnce.{long_text, refused_at_once, why}
 use Rattle.snap_output.specs.AtOnce.{unknown_version, wrong_head, wrong_version}
-use Rattle.snap_input.specs.Input.{checked_parts, texts_for}
+use Rattle.snap_input.specs.Input.{checked_parts}
 use Rattle.snap_page.specs.Answer.{found_at_once}
 use Rattle.snap_page.specs.Page.{needs_no_memory}
 use Rattle.snap_page.specs.declared.page_request.PageRequest.{PageRequest}
@@ -61,41 +60,21 @@ signed_short false bytes = of_one (refusal.Image image.NotAnImage) refl
 head_short : (bytes : List ℕ) → Short (option_map refusal.Image (wrong_head bytes))
 head_short bytes = signed_short (bytes_eq (take 4 bytes) signature) (drop 4 bytes)
 
--- a number of texts, of parts
-count_short : (counts : List (List ℕ) → Bool) (texts parts : List (List ℕ)) →
-    Short (why {A = Unit {0}} (if counts texts then Ok tt else Err (refusal.WrongParts (length parts))))
-count_short counts texts parts = parts_short (counts texts) (length parts)
-
 task_short : (t : Task) (input : List ℕ) → Short (refused_at_once t input)
 task_short task.Check input = text_short input
 task_short task.Lint input = text_short input
 task_short task.Assemble input = text_short input
 task_short task.List input = head_short input
 task_short task.Upgrade input = head_short input
-task_short (task.Run s) input =
-    count_short (λ ts. nat_eq (length ts) 1) (texts_for s (parts_of input)) (parts_of input)
-task_short (task.Trace s) input =
-    count_short (λ ts. nat_eq (length ts) 1) (texts_for s (parts_of input)) (parts_of input)
-task_short (task.Debug s) input =
-    count_short (λ ts. nat_eq (length ts) 2) (texts_for s (parts_of input)) (parts_of input)
-task_short (task.Audit s) input =
-    count_short (λ ts. nat_eq (length ts) 1) (texts_for s (parts_of input)) (parts_of input)
-task_short (task.Certify s) input =
-    count_short (λ ts. nat_eq (length ts) 1) (texts_for s (parts_of input)) (parts_of input)
-task_short (task.Batch s) input =
-    count_short (λ ts. nat_lt 0 (length ts) && nat_le (length ts) 4096) (texts_for s (parts_of input)) (parts_of input)
-task_short (task.Survey s) input =
-    count_short (λ ts. nat_lt 0 (length ts) && nat_le (length ts) 4096) (texts_for s (parts_of input)) (parts_of input)
+task_short _ input = parts_short _ _
 
 asked_short : (a : PageRequest) (input : List ℕ) → Short (found_at_once a input)
 asked_short (Do t) input =
     either (nat_lt max_input (length input)) (Some refusal.InputTooLong) (refused_at_once t input)
     (of_one refusal.InputTooLong refl) (task_short t input)
 asked_short (Judge s) input =
-    let texts = texts_for s (parts_of input) in
-    let one : List (List ℕ) → Bool = λ ts. nat_eq (length ts) 1 in
     either (nat_lt max_input (length input)) (Some refusal.InputTooLong) (why (checked_parts s 1 (parts_of input)))
-    (of_one refusal.InputTooLong refl) (count_short one texts (parts_of input))
+    (of_one refusal.InputTooLong refl) (parts_short _ _)
 
 -- what is found at once needs no memory to be handed
 pub needs_none : (a : PageRequest) (input : List ℕ) (r : Refusal) →

@@ -38,11 +38,11 @@ abbrev pub IsAnswerFor : PageRequest → List ℕ → Result (List ℕ) Refusal 
 IsAnswerFor (Do t) input answer = IsAnswerTo t input answer
 IsAnswerFor (Judge s) input answer = IsJudgedRun s input answer
 
--- What a call that allocates returns; a want of memory may stand in its place.
-abbrev pub AnswersAsked : PageRequest → List ℕ → Result (Vec ℕ Global) (Fault Refusal) → Type 0
-AnswersAsked a input (Ok out) = IsAnswerFor a input (Ok out.items)
-AnswersAsked a input (Err fault.Memory) = ⊤
-AnswersAsked a input (Err (fault.Refused r)) = IsAnswerFor a input (Err r)
+-- What was answered is right; a want of memory may stand in its place.
+abbrev pub AnswersBy : {E : Type 0} → (Result (List ℕ) E → Type 0) → Result (Vec ℕ Global) (Fault E) → Type 0
+AnswersBy IsRight (Ok out) = IsRight (Ok out.items)
+AnswersBy IsRight (Err fault.Memory) = ⊤
+AnswersBy IsRight (Err (fault.Refused r)) = IsRight (Err r)
 
 -- the refusal that is found before any memory is asked for
 abbrev pub found_at_once : PageRequest → List ℕ → Option Refusal

@@ -1,5 +1,5 @@
 -- What a page in a browser asks the program for (`asked_of`), and the code and the text that it is handed for it.
-use Rattle.std.specs.Prelude.{ℕ, Bool, true, false, List, [], ◌∷◌, ◌++◌, codes}
+use Rattle.std.specs.Prelude.{◌≡◌, ◌<◌, ◌↔◌, ℕ, Bool, true, false, List, [], ◌∷◌, ◌++◌, codes, length, take}
 use Rattle.std.specs.Prelude.{Option, Some, None, option_map, Result, Ok, Err}
 use Rattle.snap_semantics.specs.declared.refusal.ImageRefusal.TheVariants as image
 use Rattle.snap_semantics.specs.declared.refusal.ListingRefusal.TheVariants as listing
@@ -12,6 +12,7 @@ use Rattle.snap_tasks.specs.declared.request.Request.{Request}
 use Rattle.snap_tasks.specs.declared.request.Request.TheVariants.{Do, Live, Judge, Model}
 use Rattle.snap_tasks.specs.declared.subject.Subject.{Subject}
 use Rattle.snap_tasks.specs.declared.subject.Subject.TheVariants.{FirstPart, Shipped}
+use Rattle.snap_page.specs.declared.handed.Handed.{Handed}
 use Rattle.snap_page.specs.declared.page_request.PageRequest.{PageRequest}
 use Rattle.snap_page.specs.declared.page_request.PageRequest.TheVariants as asked
 
@@ -45,14 +46,35 @@ abbrev pub asked_of : (subcommand shipped : List ℕ) → Option PageRequest
 asked_of subcommand shipped = asked_with subcommand (subject_of shipped)
 
 -- 0 with an output, 1 with a refusal
-abbrev pub answer_code : Result (List ℕ) Refusal → ℕ
-answer_code (Ok text) = 0
-answer_code (Err r) = 1
+abbrev pub answer_code : {A E : Type 0} → Result A E → ℕ
+answer_code (Ok a) = 0
+answer_code (Err e) = 1
+
+-- the output, or the line of the refusal
+abbrev pub output_or_line : {E : Type 0} → (line_of : E → List ℕ) → Result (List ℕ) E → List ℕ
+output_or_line line_of (Ok text) = text
+output_or_line line_of (Err e) = line_of e
 
 -- the output, or the line that says why there is none
 abbrev pub answer_text : Result (List ℕ) Refusal → List ℕ
-answer_text (Ok text) = text
-answer_text (Err r) = refusal_line r
+answer_text answer = output_or_line refusal_line answer
+
+-- What a page is handed in its room: this code with this text; or there was no memory for it, or too little room, and
+-- then it is told how long the text is.
+pub record IsHanded (before after : List ℕ) (number : ℕ) (text : List ℕ) (h : Handed) : Type 0 where
+  pub code : h.code < 4
+  pub small : h.code ≡ 3 ↔ length before < h.len
+  pub answer : h.code < 2 → (h.code ≡ number) × (take h.len after ≡ text)
+  pub needed : h.code ≡ 3 → h.len ≡ length text
+
+-- the same of one of the answers that are right
+pub record IsHandedOneOf {E : Type 0} (IsRight : Result (List ℕ) E → Type 0) (text_of : Result (List ℕ) E → List ℕ)
+    (before after : List ℕ) (h : Handed) : Type 0 where
+  pub code : h.code < 4
+  pub small : h.code ≡ 3 ↔ length before < h.len
+  pub answer : h.code < 2 →
+      (d : Result (List ℕ) E) × IsRight d × (h.code ≡ answer_code d) × (take h.len after ≡ text_of d)
+  pub needed : h.code ≡ 3 → (d : Result (List ℕ) E) × IsRight d × (h.len ≡ length (text_of d))
 
 -- the line of a refusal of this name, with the digits behind it
 abbrev pub numbered_line : List ℕ → List ℕ → List ℕ

@@ -1,5 +1,5 @@
 -- `IsDrawn`: the picture of a run that a page in a browser asks for; and the code and the text that the page is handed.
-use Rattle.std.specs.Prelude.{◌≡◌, ℕ, false, List, ◌++◌, codes, Option, Some, Result, Ok, Err}
+use Rattle.std.specs.Prelude.{◌≡◌, ℕ, false, List, ◌++◌, codes, Option, Some, Result, Ok}
 use Rattle.snap_semantics.specs.Answers.{◌>>=◌, refused_as}
 use Rattle.snap_semantics.specs.Listing.{listing_of}
 use Rattle.snap_semantics.specs.Source.{Source}
@@ -7,6 +7,7 @@ use Rattle.snap_semantics.specs.declared.event.Event.{Event}
 use Rattle.snap_semantics.specs.declared.refusal.Refusal.TheVariants.{Listing}
 use Rattle.snap_faults.specs.RefusalText.{numbered, refusal_text}
 use Rattle.snap_page.specs.Answer.{page_configurations}
+use Rattle.snap_page.specs.Page.{output_or_line}
 use Rattle.snap_picture.specs.Picture.{FailsUnder, IsPictureBy, picture_of}
 use Rattle.snap_picture.specs.ShapeLines.{told_of}
 use Rattle.snap_picture.specs.declared.options.Options.{Options}
@@ -57,12 +58,6 @@ picture_refusal_text (refusal.TooManyItems count) = numbered (codes "D2 TooManyI
 abbrev pub picture_refusal_line : PictureRefusal → List ℕ
 picture_refusal_line r = (codes "refused: " ++ picture_refusal_text r) ++ codes "\n"
 
--- 0 with a picture, 1 with a refusal
-abbrev pub drawn_code : Result (List ℕ) PictureRefusal → ℕ
-drawn_code (Ok text) = 0
-drawn_code (Err r) = 1
-
 -- the picture, or the line that says why there is none
 abbrev pub drawn_text : Result (List ℕ) PictureRefusal → List ℕ
-drawn_text (Ok text) = text
-drawn_text (Err r) = picture_refusal_line r
+drawn_text picture = output_or_line picture_refusal_line picture

@@ -1,6 +1,6 @@
 -- How many steps lead a process to a line, or to the end of its operation, from a position of a run that a page in a
 -- browser asks about (`steps_asked`); and the code and the text that the page is handed.
-use Rattle.std.specs.Prelude.{ℕ, List, [], ◌++◌, codes, decimal, Result, Ok, Err}
+use Rattle.std.specs.Prelude.{ℕ, List, [], codes, decimal, Result, Ok, Err}
 use Rattle.snap_semantics.specs.Answers.{◌>>=◌, refused_as}
 use Rattle.snap_semantics.specs.Listing.{listing_of}
 use Rattle.snap_semantics.specs.Source.{Source}

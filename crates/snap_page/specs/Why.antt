@@ -1,13 +1,10 @@
 -- Why an item of a run that a page in a browser asks about came out as it did, the answer of a scan or a trap
--- (`IsWhyAsked`); and what a call that allocates returns where several answers may be given (`AnswersBy`).
-use Rattle.std.specs.Prelude.{◌≡◌, ◌≤◌, ◌<◌, ℕ, List, length, Result, Ok, Err, Vec, ⊤}
-use Rattle.std.specs.Global.{Global}
+-- (`IsWhyAsked`).
+use Rattle.std.specs.Prelude.{◌≡◌, ◌≤◌, ◌<◌, ℕ, List, length, Result, Ok, Err}
 use Rattle.snap_semantics.specs.Answers.{refused_as}
 use Rattle.snap_semantics.specs.Listing.{listing_of}
 use Rattle.snap_semantics.specs.Schedule.{Schedule}
 use Rattle.snap_semantics.specs.Source.{Source}
-use Rattle.snap_semantics.specs.declared.fault.Fault.{Fault}
-use Rattle.snap_semantics.specs.declared.fault.Fault.TheVariants as fault
 use Rattle.snap_semantics.specs.declared.refusal.CommandRefusal.TheVariants.{NoSuchPosition}
 use Rattle.snap_semantics.specs.declared.refusal.Refusal.{Refusal}
 use Rattle.snap_semantics.specs.declared.refusal.Refusal.TheVariants as refusal
@@ -33,9 +30,3 @@ IsWhyOf (Err r) schedule t answer = answer ≡ Err r
 -- The answer is what is said of item t of a listing's run under a schedule, or the first reason why nothing is.
 abbrev pub IsWhyAsked : (listing schedule : List ℕ) → (t : ℕ) → Result (List ℕ) Refusal → Type 0
 IsWhyAsked listing schedule t answer = IsWhyOf (refused_as refusal.Listing (listing_of listing)) schedule t answer
-
--- What was answered is right; a want of memory may stand in its place.
-abbrev pub AnswersBy : (Result (List ℕ) Refusal → Type 0) → Result (Vec ℕ Global) (Fault Refusal) → Type 0
-AnswersBy IsRight (Ok out) = IsRight (Ok out.items)
-AnswersBy IsRight (Err fault.Memory) = ⊤
-AnswersBy IsRight (Err (fault.Refused r)) = IsRight (Err r)

@@ -1,7 +1,7 @@
 //! `answer_to`: the output for an input that a page in a browser sends, by a task or a judgement.
 ghost use Rattle.std.specs.Prelude.{◌≡◌};
 ghost use Rattle.snap_input.specs.RefusesAtOnce.{IsRefusedAtOnce};
-ghost use Rattle.snap_page.specs.Answer.{AnswersAsked, found_at_once, judge_request};
+ghost use Rattle.snap_page.specs.Answer.{AnswersBy, IsAnswerFor, found_at_once, judge_request};
 ghost use Rattle.snap_page.specs.declared.page_request.PageRequest.TheVariants.{Judge};
 
 use crate::page_request::PageRequest;
@@ -29,7 +29,7 @@ pub(crate) fn judge_request(subject: Subject) -> JudgeRequest
 /// Returns the judgement of the run of an input.
 #[tactic(auto, using(crate::proofs::Judging::of_run))]
 fn judged_run(alloc: Global, subject: Subject, input: &[u8]) -> Result<Vec<u8>, Fault<Refusal>>
-    ensures output { AnswersAsked (Judge subject) input.now result }
+    ensures output { AnswersBy (IsAnswerFor (Judge subject) input.now) result }
     ensures at_once { IsRefusedAtOnce (found_at_once (Judge subject) input.now) result }
 {
     match judge_input(alloc, &judge_request(subject), input) {
@@ -51,7 +51,7 @@ pub fn answer_to(
     asked: &PageRequest,
     input: &[u8],
 ) -> Result<Vec<u8>, Fault<Refusal>>
-    ensures output { AnswersAsked asked.now input.now result }
+    ensures output { AnswersBy (IsAnswerFor asked.now input.now) result }
     ensures at_once { IsRefusedAtOnce (found_at_once asked.now input.now) result }
 {
     match asked {

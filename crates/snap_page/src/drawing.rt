@@ -4,7 +4,8 @@ ghost use Rattle.std.specs.Prelude.{◌≡◌, ◌<◌, ◌⊎◌, ◌↔◌, �
 ghost use Rattle.snap_semantics.specs.Answers.{Answers};
 ghost use Rattle.snap_picture.specs.Picture.{AnswersPicture};
 ghost use Rattle.snap_picture.specs.declared.refusal.PictureRefusal.{PictureRefusal};
-ghost use Rattle.snap_page.specs.Picture.{FailsOver, drawn, drawn_code, drawn_listing, drawn_text};
+ghost use Rattle.snap_page.specs.Page.{IsHanded, answer_code};
+ghost use Rattle.snap_page.specs.Picture.{FailsOver, drawn, drawn_listing, drawn_text};
 ghost use Rattle.snap_page.specs.Picture.{options_from, picture_refusal_line, told};
 
 use crate::answering::PAGE_CONFIGURATIONS;
@@ -103,13 +104,8 @@ pub fn handed_picture(
     answer: Result<Vec<u8>, Fault<PictureRefusal>>,
     room: &mut [u8],
 ) -> Handed
-    ensures code { result.code < 4 }
-    ensures small { result.code ≡ 3 ↔ length room.old < result.len }
-    ensures answer { (d : Result (List ℕ) PictureRefusal) → Answers (λ out. out.items) answer d →
-        result.code < 2 →
-        (result.code ≡ drawn_code d) × (take result.len room.new ≡ drawn_text d) }
-    ensures needed { (d : Result (List ℕ) PictureRefusal) → Answers (λ out. out.items) answer d →
-        result.code ≡ 3 → result.len ≡ length (drawn_text d) }
+    ensures { (d : Result (List ℕ) PictureRefusal) → Answers (λ out. out.items) answer d →
+        IsHanded room.old room.new (answer_code d) (drawn_text d) result }
 {
     match answer {
         Ok(text) => handed_text(0, text.as_slice(), room),

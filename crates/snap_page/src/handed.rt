@@ -6,7 +6,8 @@ ghost use Rattle.snap_semantics.specs.Answers.{Answers};
 ghost use Rattle.snap_semantics.specs.declared.fault.Fault.TheVariants.{Refused};
 ghost use Rattle.snap_semantics.specs.declared.refusal.Refusal.{Refusal};
 ghost use Rattle.snap_faults.specs.RefusalText.{refusal_line};
-ghost use Rattle.snap_page.specs.Page.{answer_code, answer_text, needs_no_memory, numbered_line};
+ghost use Rattle.snap_page.specs.Page.{IsHanded, answer_code, answer_text, needs_no_memory};
+ghost use Rattle.snap_page.specs.Page.{numbered_line};
 
 use itoa::Buffer;
 use snap_faults::refusal_line;
@@ -125,10 +126,7 @@ pub fn handed_answer(
         result.code ≡ 1 ⊎ result.code ≡ 3 }
     ensures small { result.code ≡ 3 ↔ length room.old < result.len }
     ensures answer { (d : Result (List ℕ) Refusal) → Answers (λ out. out.items) answer d →
-        result.code < 2 →
-        (result.code ≡ answer_code d) × (take result.len room.new ≡ answer_text d) }
-    ensures needed { (d : Result (List ℕ) Refusal) → Answers (λ out. out.items) answer d →
-        result.code ≡ 3 → result.len ≡ length (answer_text d) }
+        IsHanded room.old room.new (answer_code d) (answer_text d) result }
 {
     match answer {
         Ok(text) => handed_text(0, text.as_slice(), room),

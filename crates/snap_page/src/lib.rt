@@ -7,15 +7,15 @@
 ghost use Rattle.std.specs.Prelude.{◌≡◌, ◌≢◌, ◌<◌, ◌⊎◌, ◌↔◌};
 ghost use Rattle.std.specs.Prelude.{ℕ, List, None, Result, Some, length, take};
 ghost use Rattle.snap_page.specs.Answer.{IsAnswerFor, found_at_once};
-ghost use Rattle.snap_page.specs.Page.{answer_code, answer_text, asked_of};
+ghost use Rattle.snap_page.specs.Page.{IsHanded, IsHandedOneOf, answer_code, answer_text};
+ghost use Rattle.snap_page.specs.Page.{asked_of};
 ghost use Rattle.snap_page.specs.Hunt.{IsHandedHunt, IsHuntAnswer, IsHuntable, hunt_asked};
 ghost use Rattle.snap_page.specs.Explained.{explained};
-ghost use Rattle.snap_page.specs.Picture.{IsDrawn, drawn_code, drawn_text, told};
+ghost use Rattle.snap_page.specs.Picture.{IsDrawn, drawn_text, told};
 ghost use Rattle.snap_page.specs.Marks.{marks_asked};
 ghost use Rattle.snap_page.specs.Steps.{steps_asked, steps_code, steps_text};
 ghost use Rattle.snap_page.specs.Why.{IsWhyAsked};
 ghost use Rattle.snap_prompt.specs.declared.goal.Goal.TheVariants as goal;
-ghost use Rattle.snap_picture.specs.declared.refusal.PictureRefusal.{PictureRefusal};
 ghost use Rattle.snap_semantics.specs.declared.refusal.Refusal.{Refusal};
 ghost use Rattle.snap_hunt_output.specs.declared.hunted.Hunted.{Hunted};
 ghost use Rattle.snap_faults.specs.declared.fault.ProgramFault.{ProgramFault};
@@ -60,17 +60,10 @@ pub extern "C" fn page_output(
     ensures code { result.code < 5 }
     ensures no_task { result.code ≡ 4 ↔ asked_of subcommand.now shipped.now ≡ None }
     ensures small { result.code ≡ 3 ↔ length room.old < result.len }
-    ensures answer { (a : PageRequest) → asked_of subcommand.now shipped.now ≡ Some a → result.code
-        < 2 →
-        (answer : Result (List ℕ) Refusal) × IsAnswerFor a input.now answer
-        × (result.code ≡ answer_code answer) × (take result.len room.new ≡ answer_text answer) }
-    ensures needed { (a : PageRequest) → asked_of subcommand.now shipped.now ≡ Some a → result.code
-        ≡ 3 →
-        (answer : Result (List ℕ) Refusal) × IsAnswerFor a input.now answer
-        × (result.len ≡ length (answer_text answer)) }
-    ensures at_once { (a : PageRequest) (r : Refusal) → asked_of subcommand.now shipped.now ≡ Some
-        a →
-        found_at_once a input.now ≡ Some r →
+    ensures answer { (a : PageRequest) → asked_of subcommand.now shipped.now ≡ Some a →
+        IsHandedOneOf (IsAnswerFor a input.now) answer_text room.old room.new result }
+    ensures at_once { (a : PageRequest) (r : Refusal) →
+        asked_of subcommand.now shipped.now ≡ Some a → found_at_once a input.now ≡ Some r →
         result.code ≡ 1 ⊎ result.code ≡ 3 }
 {
     let Some(asked) = asked_of(subcommand, shipped) else {
@@ -121,13 +114,8 @@ pub extern "C" fn page_until(
     line: u64,
     room: &mut [u8],
 ) -> Handed
-    ensures code { result.code < 4 }
-    ensures small { result.code ≡ 3 ↔ length room.old < result.len }
-    ensures answer { let steps = steps_asked listing.now schedule.now at process (goal.Line line) in
-        result.code < 2 →
-        (result.code ≡ steps_code steps) × (take result.len room.new ≡ steps_text steps) }
-    ensures needed { let steps = steps_asked listing.now schedule.now at process (goal.Line line) in
-        result.code ≡ 3 → result.len ≡ length (steps_text steps) }
+    ensures { let steps = steps_asked listing.now schedule.now at process (goal.Line line) in
+        IsHanded room.old room.new (steps_code steps) (steps_text steps) result }
 {
     let answer = steps_asked(alloc, listing, schedule, at, process, Goal::Line(line));
     handed_steps(alloc, answer, room)
@@ -144,13 +132,8 @@ pub extern "C" fn page_end(
     process: u64,
     room: &mut [u8],
 ) -> Handed
-    ensures code { result.code < 4 }
-    ensures small { result.code ≡ 3 ↔ length room.old < result.len }
-    ensures answer { let steps = steps_asked listing.now schedule.now at process goal.End in
-        result.code < 2 →
-        (result.code ≡ steps_code steps) × (take result.len room.new ≡ steps_text steps) }
-    ensures needed { let steps = steps_asked listing.now schedule.now at process goal.End in
-        result.code ≡ 3 → result.len ≡ length (steps_text steps) }
+    ensures { let steps = steps_asked listing.now schedule.now at process goal.End in
+        IsHanded room.old room.new (steps_code steps) (steps_text steps) result }
 {
     let answer = steps_asked(alloc, listing, schedule, at, process, Goal::End);
     handed_steps(alloc, answer, room)
@@ -167,14 +150,8 @@ pub extern "C" fn page_why(
     item: u64,
     room: &mut [u8],
 ) -> Handed
-    ensures code { result.code < 4 }
-    ensures small { result.code ≡ 3 ↔ length room.old < result.len }
-    ensures answer { result.code < 2 →
-        (why : Result (List ℕ) Refusal) × IsWhyAsked listing.now schedule.now item why
-        × (result.code ≡ answer_code why) × (take result.len room.new ≡ answer_text why) }
-    ensures needed { result.code ≡ 3 →
-        (why : Result (List ℕ) Refusal) × IsWhyAsked listing.now schedule.now item why
-        × (result.len ≡ length (answer_text why)) }
+    ensures { IsHandedOneOf (IsWhyAsked listing.now schedule.now item) answer_text room.old room.new
+        result }
 {
     let answer = why_asked(alloc, listing, schedule, item);
     handed_answer(alloc, answer, room)
@@ -184,12 +161,8 @@ pub extern "C" fn page_why(
 /// sets it; or the line that says why the text is none.
 #[unsafe(no_mangle)]
 pub extern "C" fn page_marks(alloc: Global, commands: &[u8], room: &mut [u8]) -> Handed
-    ensures code { result.code < 4 }
-    ensures small { result.code ≡ 3 ↔ length room.old < result.len }
-    ensures answer { let marks = marks_asked commands.now in result.code < 2 →
-        (result.code ≡ answer_code marks) × (take result.len room.new ≡ answer_text marks) }
-    ensures needed { let marks = marks_asked commands.now in result.code ≡ 3 →
-        result.len ≡ length (answer_text marks) }
+    ensures { let marks = marks_asked commands.now in
+        IsHanded room.old room.new (answer_code marks) (answer_text marks) result }
 {
     let answer = marks_asked(alloc, commands);
     handed_answer(alloc, answer, room)
@@ -206,12 +179,8 @@ pub extern "C" fn page_shapes(
     to: u64,
     room: &mut [u8],
 ) -> Handed
-    ensures code { result.code < 4 }
-    ensures small { result.code ≡ 3 ↔ length room.old < result.len }
-    ensures answer { let told = told listing.now schedule.now from to in result.code < 2 →
-        (result.code ≡ drawn_code told) × (take result.len room.new ≡ drawn_text told) }
-    ensures needed { let told = told listing.now schedule.now from to in result.code ≡ 3 →
-        result.len ≡ length (drawn_text told) }
+    ensures { let told = told listing.now schedule.now from to in
+        IsHanded room.old room.new (answer_code told) (drawn_text told) result }
 {
     let answer = told(alloc, listing, schedule, from, to);
     handed_picture(alloc, answer, room)
@@ -228,16 +197,8 @@ pub extern "C" fn page_picture(
     to: u64,
     room: &mut [u8],
 ) -> Handed
-    ensures code { result.code < 4 }
-    ensures small { result.code ≡ 3 ↔ length room.old < result.len }
-    ensures answer { result.code < 2 →
-        (picture : Result (List ℕ) PictureRefusal)
-        × IsDrawn listing.now schedule.now from to STYLE.now LEGEND.now picture
-        × (result.code ≡ drawn_code picture) × (take result.len room.new ≡ drawn_text picture) }
-    ensures needed { result.code ≡ 3 →
-        (picture : Result (List ℕ) PictureRefusal)
-        × IsDrawn listing.now schedule.now from to STYLE.now LEGEND.now picture
-        × (result.len ≡ length (drawn_text picture)) }
+    ensures { IsHandedOneOf (IsDrawn listing.now schedule.now from to STYLE.now LEGEND.now)
+        drawn_text room.old room.new result }
 {
     let look = Look {
         style: STYLE,

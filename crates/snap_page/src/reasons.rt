@@ -3,7 +3,8 @@ ghost use Rattle.std.specs.Prelude.{◌≡◌, ◌≤◌, IfOk, length};
 ghost use Rattle.snap_input.specs.Schedules.{schedule_for};
 ghost use Rattle.snap_runs.specs.Run.{run_over};
 ghost use Rattle.snap_why.specs.Why.{IsWhy};
-ghost use Rattle.snap_page.specs.Why.{AnswersBy, IsWhyAsked, IsWhyFor, IsWhyUnder};
+ghost use Rattle.snap_page.specs.Answer.{AnswersBy};
+ghost use Rattle.snap_page.specs.Why.{IsWhyAsked, IsWhyFor, IsWhyUnder};
 
 use snap_asm_program::Program;
 use snap_input::{program_of, schedule_for};

@@ -1,9 +1,10 @@
 //! `steps_asked`: how many steps lead a process to a line, or to the end of its operation, from a
 //! position of a run that a page in a browser asks about.
-ghost use Rattle.std.specs.Prelude.{◌≡◌, ◌<◌, ◌⊎◌, ◌↔◌, ℕ, Result, length, take};
+ghost use Rattle.std.specs.Prelude.{◌≡◌, ◌<◌, ℕ, Result, length};
 ghost use Rattle.snap_semantics.specs.Answers.{Answers};
 ghost use Rattle.snap_semantics.specs.declared.refusal.Refusal.{Refusal};
 ghost use Rattle.snap_prompt.specs.declared.goal.NoSteps.{NoSteps};
+ghost use Rattle.snap_page.specs.Page.{IsHanded};
 ghost use Rattle.snap_page.specs.Steps.{no_steps_words, session_at, steps_asked, steps_code};
 ghost use Rattle.snap_page.specs.Steps.{steps_of, steps_text};
 
@@ -115,13 +116,8 @@ pub fn handed_steps(
     answer: Result<Result<u64, NoSteps>, Fault<Refusal>>,
     room: &mut [u8],
 ) -> Handed
-    ensures code { result.code < 4 }
-    ensures small { result.code ≡ 3 ↔ length room.old < result.len }
-    ensures answer { (d : Result (Result ℕ NoSteps) Refusal) → Answers (λ steps. steps) answer d →
-        result.code < 2 →
-        (result.code ≡ steps_code d) × (take result.len room.new ≡ steps_text d) }
-    ensures needed { (d : Result (Result ℕ NoSteps) Refusal) → Answers (λ steps. steps) answer d →
-        result.code ≡ 3 → result.len ≡ length (steps_text d) }
+    ensures { (d : Result (Result ℕ NoSteps) Refusal) → Answers (λ steps. steps) answer d →
+        IsHanded room.old room.new (steps_code d) (steps_text d) result }
 {
     match answer {
         Ok(Ok(count)) => {

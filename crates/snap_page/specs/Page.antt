@@ -67,7 +67,7 @@ pub record IsHanded (before after : List ℕ) (number : ℕ) (text : List ℕ) (
   pub answer : h.code < 2 → (h.code ≡ number) × (take h.len after ≡ text)
   pub needed : h.code ≡ 3 → h.len ≡ length text
 
--- the same of one of the answers that are right
+-- What a page is handed of one of the answers that are right: its code with its text, or how long the text is.
 pub record IsHandedOneOf {E : Type 0} (IsRight : Result (List ℕ) E → Type 0) (text_of : Result (List ℕ) E → List ℕ)
     (before after : List ℕ) (h : Handed) : Type 0 where
   pub code : h.code < 4

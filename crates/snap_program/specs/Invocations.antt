@@ -27,7 +27,7 @@ abbrev pub subject_of : Option KindTag → Subject
 subject_of None = FirstPart
 subject_of (Some kind) = Shipped kind
 
--- what is asked for has such a limit, where it has one
+-- where a live run is asked for, its limit on turns is one that processes may have
 abbrev pub HasLimits : Invocation Order → Type 0
 HasLimits asked = HasLimit asked.request.request
 

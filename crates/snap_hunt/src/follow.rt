@@ -101,7 +101,7 @@ fn goes_along<K: Kind>(
     }
 }
 
-/// Does an item of a run, and its own in the one that goes along, if it does.
+/// Applies an item of a run, and its counterpart in the smaller run, if any.
 fn follow_item<K: Kind>(
     leader: &mut Machine<K>,
     machine: &mut Machine<K>,

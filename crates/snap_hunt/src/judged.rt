@@ -39,7 +39,7 @@ fn judged(
     }
 }
 
-/// Returns that the run of this history is not linearizable, if that failure is wanted and so.
+/// Returns the failure of this history to be linearizable, if it is wanted and true.
 pub(crate) fn of_judgement(
     alloc: Global,
     program: &Program,

@@ -33,7 +33,7 @@ pub(crate) struct StepCounter<'a> {
     overrun: Option<Failure>,
 }
 
-/// Returns whether a process is busy that stands so.
+/// Returns whether this status is `Busy`.
 fn is_busy(status: Status) -> bool
     ensures { result ≡ is_busy status }
 {

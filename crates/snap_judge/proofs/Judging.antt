@@ -24,9 +24,9 @@ explained_decides most h steps order is f =
     rw f.found.2 at ((histories_are_explained h is).sound f.found.0 (rw f.steps at f.found.1))
 
 -- A history whose steps nothing explains is not linearizable.
-pub unexplained_decides : (most : ℕ) (h : History) (steps : List KeptStep) → IsHistory h →
-    HasFound most h steps found.Unexplained → IsLinearizableHistory h → ⊥
-unexplained_decides most h steps is f l =
+pub unexplained_decides : (most passed : ℕ) (h : History) (steps : List KeptStep) → IsHistory h →
+    HasFound most h steps (found.Unexplained passed) → IsLinearizableHistory h → ⊥
+unexplained_decides most passed h steps is f l =
     let m = (histories_are_explained h is).complete l.0 l.1 in f.found (m.0, rw f.steps m.1)
 
 -- What is known of equal steps.

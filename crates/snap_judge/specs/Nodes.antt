@@ -162,7 +162,7 @@ abbrev pub IsFound : (most n w : ℕ) → List KeptStep → Found → Type 0
 IsFound most n w steps (found.Explained order) =
     (moves : List Move) × Explains moves (steps_kept steps) (replicate w 0) (replicate n Free)
     × (taken moves ≡ map (called_at steps) order.items)
-IsFound most n w steps found.Unexplained = NothingExplains n w steps
+IsFound most n w steps (found.Unexplained passed) = NothingExplains n w steps
 IsFound most n w steps found.Undecided = MeetsMoreThan most (first n w steps)
 
 -- These are the steps of a history, and what a search has found of them is so.

@@ -81,10 +81,11 @@ pub struct Entered {
 }
 
 /// What a search has found: an order in which the operations take place, by the steps that call
-/// them; that nothing explains the history; or neither, within the bound.
+/// them; that nothing explains the history, and the most steps that it passed on any way; or
+/// neither, within the bound.
 #[derive(Drop)]
 pub enum Found {
     Explained(Vec<usize>),
-    Unexplained,
+    Unexplained(usize),
     Undecided,
 }

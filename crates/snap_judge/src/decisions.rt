@@ -109,7 +109,7 @@ pub fn decide(
     let (_, found) = search_events(alloc, history, count, most)?;
     match found {
         Found::Explained(_) => Ok(Linearizability::Linearizable),
-        Found::Unexplained => Ok(Linearizability::NotLinearizable),
+        Found::Unexplained(_) => Ok(Linearizability::NotLinearizable),
         Found::Undecided => Ok(Linearizability::Undecided),
     }
 }

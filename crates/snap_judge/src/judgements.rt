@@ -1,8 +1,8 @@
 //! Whether a history is linearizable, and if not, at which event it fails.
 ghost use Rattle.snap_judge.specs.History.{IsHistory};
 ghost use Rattle.snap_judge.specs.Linearizable.{IsLinearizableHistory};
-ghost use Rattle.snap_judge.specs.Judgement.{IsFailing, IsJudgement, failing_of};
-ghost use Rattle.std.specs.Prelude.{◌≡◌, IfOk};
+ghost use Rattle.snap_judge.specs.Judgement.{IsDecision, IsFailing, IsJudgement, failing_of};
+ghost use Rattle.std.specs.Prelude.{◌≡◌, ◌<◌, suc, IfOk};
 
 use crate::config::Found;
 use crate::decisions::{decide, operations, search_events};
@@ -38,9 +38,33 @@ pub enum Failing {
     Undecided(usize),
 }
 
-/// Finds the event at which a history that is not linearizable fails, each time in the middle of
-/// the events between one up to which it is linearizable and one up to which it is not.
-fn failure(alloc: Global, history: &History, most: usize) -> Result<Judgement<'_>, AllocError>
+/// Returns how many events are tried next, where up to `holds` of them a history is linearizable
+/// and up to `fails` it is not: as many as a search passed, then one more, and else the middle.
+fn next_count(holds: usize, fails: usize, passed: usize) -> usize
+    requires { suc holds < fails }
+    ensures more { holds < result }
+    ensures fewer { result < fails }
+{
+    if holds < passed && passed < fails {
+        return passed;
+    }
+    if holds == passed {
+        return holds + 1;
+    }
+    holds + (fails - holds) / 2
+}
+
+/// Finds the event at which a history that is not linearizable fails. A search of the whole history
+/// failed, and `passed` events on the way. No search is led by later events, so mostly these are
+/// the events before the one that fails: that is tried first. Where it is not so, the event is
+/// sought in the middle of those between one up to which the history is linearizable and one up to
+/// which it is not.
+fn failure(
+    alloc: Global,
+    history: &History,
+    passed: usize,
+    most: usize,
+) -> Result<Judgement<'_>, AllocError>
     requires history { IsHistory history.now }
     requires fails { IsLinearizableHistory history.now → ⊥ }
     ensures { IfOk result (IsJudgement most history.now) }
@@ -48,11 +72,11 @@ fn failure(alloc: Global, history: &History, most: usize) -> Result<Judgement<'_
     let mut holds = 0;
     let mut fails = history.events.len();
     while holds + 1 < fails {
-        let middle = holds + (fails - holds) / 2;
-        match decide(alloc, history, middle, most)? {
-            Linearizability::Linearizable => holds = middle,
-            Linearizability::NotLinearizable => fails = middle,
-            Linearizability::Undecided => return Ok(Judgement::Undecided(middle)),
+        let count = next_count(holds, fails, passed);
+        match decide(alloc, history, count, most)? {
+            Linearizability::Linearizable => holds = count,
+            Linearizability::NotLinearizable => fails = count,
+            Linearizability::Undecided => return Ok(Judgement::Undecided(count)),
         }
     }
     Ok(Judgement::NotLinearizable(fails))
@@ -92,13 +116,12 @@ pub fn judge(alloc: Global, history: &History, most: usize) -> Result<Judgement<
             let ordered = operations(alloc, &steps, &order)?;
             Ok(Judgement::Linearizable(ordered))
         }
-        Found::Unexplained => failure(alloc, history, most),
+        Found::Unexplained(passed) => failure(alloc, history, passed, most),
         Found::Undecided => Ok(Judgement::Undecided(count)),
     }
 }
 
-/// Returns where `history` fails, by such a search as that of `judge`; no order of the operations
-/// is made.
+/// Returns where `history` fails, by such searches as those of `judge`.
 ///
 /// # Errors
 ///
@@ -111,13 +134,22 @@ pub fn judge_without_order(
     requires { IsHistory history.now }
     ensures { IfOk result (IsFailing most history.now) }
 {
-    let count = history.events.len();
-    if count == 0 {
-        return Ok(Failing::Nowhere);
-    }
-    match decide(alloc, history, count, most)? {
-        Linearizability::Linearizable => Ok(Failing::Nowhere),
-        Linearizability::NotLinearizable => Ok(failing_of(&failure(alloc, history, most)?)),
-        Linearizability::Undecided => Ok(Failing::Undecided(count)),
-    }
+    let judgement = judge(alloc, history, most)?;
+    Ok(failing_of(&judgement))
+}
+
+/// Decides whether `history` is linearizable, by one search of all of it.
+///
+/// # Errors
+///
+/// `AllocError` where memory runs out.
+pub fn decision(
+    alloc: Global,
+    history: &History,
+    most: usize,
+) -> Result<Linearizability, AllocError>
+    requires { IsHistory history.now }
+    ensures { IfOk result (IsDecision most history.now) }
+{
+    decide(alloc, history, history.events.len(), most)
 }

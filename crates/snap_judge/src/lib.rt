@@ -19,7 +19,7 @@ mod search;
 mod taking;
 
 pub use history::{History, copied_events};
-pub use judgements::{Failing, Judgement, failing_of, judge, judge_without_order};
+pub use judgements::{Failing, Judgement, decision, failing_of, judge, judge_without_order};
 pub use linearizability::Linearizability;
 pub use operation::{Action, Operation};
 

@@ -191,6 +191,15 @@ fn go_on(
     descend(steps, trail)
 }
 
+/// Returns the most steps that have passed at one of the configurations.
+fn furthest(failed: &HashSet<Config>) -> usize {
+    let mut furthest = 0;
+    for config in failed {
+        furthest = furthest.max(config.position);
+    }
+    furthest
+}
+
 /// Searches for an order in which all operations take place. The search keeps at most `most`
 /// configurations, no two of them the same: those at which it has a choice left, and those from
 /// which nothing explains the rest; it returns that it has not decided if there are more.
@@ -217,7 +226,7 @@ pub fn search(
         order: Vec::new(alloc),
     };
     let Some(mut entered) = start(alloc, steps, &mut trail)? else {
-        return Ok(Found::Unexplained);
+        return Ok(Found::Unexplained(0));
     };
     for _ in 0..most {
         if entered.at_end {
@@ -225,7 +234,7 @@ pub fn search(
             return Ok(Found::Explained(order));
         }
         let Some(next) = go_on(steps, &mut trail, entered)? else {
-            return Ok(Found::Unexplained);
+            return Ok(Found::Unexplained(furthest(&trail.failed)));
         };
         entered = next;
     }

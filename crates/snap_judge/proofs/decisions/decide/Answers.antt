@@ -20,7 +20,7 @@ returns c =
         explained_decides c.args.most h steps w.in-Explained.field-0 is
             (subst (HasFound c.args.most h steps) w.in-Explained.is c.in_ok-found.ensures),
       )
-      | in-Unexplained w ↦ rw w.result-is (unexplained_decides c.args.most h steps is
+      | in-Unexplained w ↦ rw w.result-is (unexplained_decides c.args.most w.in-Unexplained.field-0 h steps is
           (subst (HasFound c.args.most h steps) w.in-Unexplained.is c.in_ok-found.ensures))
       | in-Undecided w ↦ rw w.result-is (undecided_decides c.args.most h steps
           (subst (HasFound c.args.most h steps) w.in-Undecided.is c.in_ok-found.ensures))

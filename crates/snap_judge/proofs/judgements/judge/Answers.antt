@@ -31,5 +31,5 @@ failure-requires-clause-fails c =
     let few : length h.events ≤ c.len-count.result = search rules in
     let whole = up_to_whole c.len-count.result h few in
     let f = subst (HasFound c.args.most (up_to c.len-count.result h) steps) c.in-Unexplained.is c.in_ok-steps.ensures in
-    unexplained_decides c.args.most h steps c.requires
-    (subst (λ (x : History). HasFound c.args.most x steps found.Unexplained) whole f)
+    unexplained_decides c.args.most c.in-Unexplained.passed h steps c.requires
+    (subst (λ (x : History). HasFound c.args.most x steps (found.Unexplained c.in-Unexplained.passed)) whole f)

@@ -4,8 +4,7 @@ use Rattle.snap_judge.specs.Judgement.{IsFailing}
 use Rattle.snap_judge.proofs.Judging.{fails_so}
 use Rattle.snap_judge.proofs.judgements.judge_without_order.Goals as goal
 
-pub returns-in_ok-failure-in-NotLinearizable : goal.returns-in_ok-failure-in-NotLinearizable
-returns-in_ok-failure-in-NotLinearizable c =
+pub returns : goal.returns
+returns c =
     subst (IsFailing c.args.most c.args.history.now) (sym c.failing_of.ensures)
-    (fails_so c.args.most c.args.history.now c.in_ok-failure-in-NotLinearizable.field-0
-    c.in_ok-failure-in-NotLinearizable.ensures)
+    (fails_so c.args.most c.args.history.now c.in_ok-judgement.judgement c.in_ok-judgement.ensures)

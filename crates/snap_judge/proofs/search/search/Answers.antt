@@ -22,3 +22,7 @@ returns-then-entered-2 c =
     explains_all c.args.processes c.args.words c.loop.trail.processes c.loop.trail.words c.args.steps.now
     c.loop.trail.order.items c.loop.entered c.loop.invariant.processes c.loop.invariant.words
     c.loop.invariant.at.entered c.if-entered-2.true
+
+pub returns-in_default-2 : goal.returns-in_default-2
+returns-in_default-2 c =
+    rw (c.loop.invariant.processes, c.loop.invariant.words) at (rw c.in_default-2.is at c.in_ok-next.ensures.none)

@@ -11,6 +11,6 @@ mod tracer;
 
 pub use act::{Act, Spot, TraceStep};
 pub use intent::index_value;
-pub use loans::{Borrowed, ScanPlaces, lender_at, source_at, view_taken};
+pub use loans::{Borrowed, ScanPlaces, lender_at, set_for, source_at, view_taken};
 pub use searches::{StepPattern, first_step_from, first_within, last_before};
 pub use tracer::trace;

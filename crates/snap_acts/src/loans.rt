@@ -60,7 +60,7 @@ fn set_before(steps: &[TraceStep], process: u32, view: Name, k: usize) -> Option
 }
 
 /// Returns the place at which the view was set that the item at a place hands on.
-fn set_for(steps: &[TraceStep], k: usize) -> Option<usize>
+pub fn set_for(steps: &[TraceStep], k: usize) -> Option<usize>
     requires { k ≤ length steps.now }
     ensures place { result ≡ set_for steps.now k }
     ensures within { IfSome result (λ d. d < k) }

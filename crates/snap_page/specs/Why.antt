@@ -22,7 +22,7 @@ abbrev pub IsWhyFor : Source → Result Schedule Refusal → (t : ℕ) → Resul
 IsWhyFor l (Ok s) t answer = IsWhyUnder l s t answer
 IsWhyFor l (Err r) t answer = answer ≡ Err r
 
--- the same of a listing that may be refused
+-- the same for the text of a listing, read or refused
 abbrev pub IsWhyOf : Result Source Refusal → (schedule : List ℕ) → (t : ℕ) → Result (List ℕ) Refusal → Type 0
 IsWhyOf (Ok l) schedule t answer = IsWhyFor l (schedule_for l schedule) t answer
 IsWhyOf (Err r) schedule t answer = answer ≡ Err r

@@ -139,9 +139,9 @@ pub extern "C" fn page_end(
     handed_steps(alloc, answer, room)
 }
 
-/// Hands a page why an item of a listing's run under a schedule came out as it did: why a scan that
-/// it answers answered so, or why its process trapped; that it did neither, and which item does; or
-/// the line that says why nothing is said of it.
+/// Hands a page why an item of a listing's run under a schedule came out as it did: why the scan
+/// that it ends answered so, or why its process trapped. If it did neither, the answer names an
+/// item that does; if there is no such run or item, the answer is the line of the refusal.
 #[unsafe(no_mangle)]
 pub extern "C" fn page_why(
     alloc: Global,

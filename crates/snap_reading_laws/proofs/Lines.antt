@@ -3,8 +3,10 @@
 use Rattle.std.proofs.Common.{◌≡◌, ℕ, ◌-◌, ◌<◌, ◌≤◌, true, false, ◌&&◌, Result, Ok, Err, []}
 use Rattle.std.proofs.Common.{if◌then◌else◌, refl, Bool, List, ap, ◌∙◌, Option, Some, None, length, slice_set}
 use Rattle.std.proofs.Common.{sym, arith, ◌++◌, append_assoc, ◌∷◌, codes}
+use Rattle.std.proofs.Common.{map, take}
 use Rattle.std.specs.List.{list_all}
 use Rattle.std.proofs.lemmas.Bool.Decides.{nat_tests}
+use Rattle.std.proofs.lemmas.List.{length-map, length-take}
 use Rattle.std.proofs.lemmas.List.Elements.{All-get_or}
 use Rattle.snap_words.specs.Word.{Word, no_word}
 use Rattle.snap_words.specs.Kind.{is_bit, is_sized, may_write}
@@ -179,6 +181,14 @@ module _ (l : Locals) (m : Memory) where
   finish_leaves (op.Update word value) None = tt
   finish_leaves _ link = tt
 
+-- a view that is made of words has a value for each word of memory
+data_count : (f : Word → ℕ) (shape : Counts) (words : List Word) → length words ≡ places shape →
+    length (map f (take shape.w words)) ≡ shape.w
+data_count f shape words many =
+    let all = length-map (take shape.w words) f in
+    let some = length-take shape.w words in
+    omega (arith, all, some, many)
+
 ruleset leaving = (
   bound,
   onward,
@@ -187,7 +197,6 @@ ruleset leaving = (
   scalar,
   other,
   test_leaves,
-  collected,
   bits_words,
   bits_views,
   first_leaves,
@@ -249,6 +258,15 @@ leaves s S c m a (PutView i x) h of right =
     let within : index_value c i - 1 < length m.views = omega (arith, to, rows) in
     onward c.locals m t (following s.lines a.line) (with_memory_views (slice_set m.views k v) m) c.locals a.link
     (rw (← to.is, same) (published c.locals m (index_value c i) x to.first within))))
+leaves s S c m a (ViewData x y) h of right =
+    let words : List Word = value_at y c.locals.words [] in
+    let datum : Word → ℕ = λ w. w.datum in
+    let v : List ℕ = map datum (take c.shape.w words) in
+    let many : length words ≡ places c.shape = h.words y (is_words s y right.1.0) in
+    let long : length v ≡ c.shape.w = data_count datum c.shape words many in
+    let own : length (view_in c.locals x) ≡ c.shape.w = h.views x (is_view s x right.0) in
+    onward c.locals m (act.Collect x) (following s.lines a.line) m _ a.link
+    (collected c.locals m x y v (own ∙ sym long) (ap (λ (n : ℕ). map datum (take n words)) (sym long)))
 leaves s S c m a (ViewOf x y i) h of right =
     let t : Act = stepped (intent_of_line c (ViewOf x y i)) S c.me in
     bound c.locals m t None (place_in (places c.shape) (index_value c i)) _ (λ k there.

@@ -10,7 +10,7 @@ use Rattle.snap_why.specs.Answer.{chain_lines, lender_of, view_lines}
 -- once the view of a scan is told, its lender's is next
 pub goes_on : (ss : List TraceStep) (next : Option ScanPlaces) (s : ScanPlaces) (left : ℕ)
     (out out' all : List ℕ) (v : Option Borrowed) (l : Option ScanPlaces) →
-    0 < left → next ≡ Some s → v ≡ view_taken ss s → l ≡ lender_of v → out' ≡ out ++ view_lines ss s.process v →
+    0 < left → next ≡ Some s → v ≡ view_taken ss s → l ≡ lender_of v → out' ≡ out ++ view_lines ss s v →
     out ++ chain_lines ss next left ≡ all → out' ++ chain_lines ss l (left - 1) ≡ all
 goes_on ss next s zero out out' all v l some is taken lends told so_far = absurd (omega arith)
 goes_on ss next s (suc left) out out' all v l some is taken lends told so_far =

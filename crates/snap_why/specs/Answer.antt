@@ -1,7 +1,7 @@
 -- Why a scan answered what it answered: its point, how many double collects it took, and, where it took the view of
 -- another process, who wrote that view, and which scan saw it. Each is followed by the command that goes there.
 use Rattle.std.specs.Prelude.{◌≡◌, ℕ, zero, suc, ◌-◌, List, [], ◌∷◌, ◌++◌, take, Option, Some, None}
-use Rattle.std.specs.Prelude.{codes, decimal, nat_eq, if◌then◌else◌}
+use Rattle.std.specs.Prelude.{codes, decimal, nat_eq, nat_lt, if◌then◌else◌}
 use Rattle.snap_runs.specs.Run.{Run, run_of_items}
 use Rattle.snap_runs.specs.declared.verdict.Verdict.{Verdict}
 use Rattle.snap_audit.specs.VerdictText.{verdict_line}
@@ -10,7 +10,7 @@ use Rattle.snap_run_judge.specs.RunHistory.{history_of}
 use Rattle.snap_run_judge.specs.RunJudgement.{IsRunJudgement, most_configurations}
 use Rattle.snap_run_judge.specs.VerdictText.{verdict_text}
 use Rattle.snap_acts.specs.declared.act.TraceStep.{TraceStep}
-use Rattle.snap_acts.specs.Loans.{view_taken, step_at}
+use Rattle.snap_acts.specs.Loans.{set_for, step_at, view_taken}
 use Rattle.snap_acts.specs.declared.loans.Borrowed.{Borrowed}
 use Rattle.snap_acts.specs.declared.loans.ScanPlaces.{ScanPlaces}
 
@@ -68,13 +68,21 @@ written_lines ss (Some k) lender = writer_lines ss k lender
 abbrev pub taken_lines : List TraceStep → Borrowed → List ℕ
 taken_lines ss b = goto_line (codes " took a view") (step_at ss b.taken).item ++ written_lines ss b.written b.lender
 
-abbrev pub taken_or_own : List TraceStep → Option Borrowed → List ℕ
-taken_or_own ss None = codes " took no view: it read these values itself\n"
-taken_or_own ss (Some b) = taken_lines ss b
+-- A scan that began at place `from` took no view: its process made the one with which it ends, or had set it at this
+-- place before the scan began, or never.
+abbrev pub own_lines : List TraceStep → (from : ℕ) → Option ℕ → List ℕ
+own_lines ss from None = codes " set no view in this scan, nor before it\n"
+own_lines ss from (Some k) =
+    if nat_lt k from then goto_line (codes " set no view in this scan; it had set this one before") (step_at ss k).item
+    else codes " took no view: it read these values itself\n"
 
--- the view that process i took, where its scan took one
-unfoldable pub view_lines : List TraceStep → ℕ → Option Borrowed → List ℕ
-view_lines ss i view = process_text i ++ taken_or_own ss view
+abbrev pub taken_or_own : List TraceStep → ScanPlaces → Option Borrowed → List ℕ
+taken_or_own ss s None = own_lines ss s.from (set_for ss s.to)
+taken_or_own ss s (Some b) = taken_lines ss b
+
+-- where the view comes from with which a scan ends, and which the scan took, if it took one
+unfoldable pub view_lines : List TraceStep → ScanPlaces → Option Borrowed → List ℕ
+view_lines ss s view = process_text s.process ++ taken_or_own ss s view
 
 -- the lender's scan, where a view was taken
 abbrev pub lender_of : Option Borrowed → Option ScanPlaces
@@ -86,7 +94,7 @@ abbrev pub chain_lines : List TraceStep → Option ScanPlaces → ℕ → List �
 chain_lines ss s zero = []
 chain_lines ss None (suc more) = []
 chain_lines ss (Some s) (suc more) =
-    view_lines ss s.process (view_taken ss s) ++ chain_lines ss (lender_of (view_taken ss s)) more
+    view_lines ss s (view_taken ss s) ++ chain_lines ss (lender_of (view_taken ss s)) more
 
 -- the places of the scan of a verdict that item t answers
 abbrev pub scan_places : Verdict → ℕ → ScanPlaces

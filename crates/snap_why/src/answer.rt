@@ -4,11 +4,11 @@ ghost use Rattle.std.specs.Prelude.{◌≡◌, ◌≤◌, ◌<◌, ◌-◌, IfSo
 ghost use Rattle.snap_text.specs.Drafted.{Adds};
 ghost use Rattle.snap_acts.specs.Loans.{step_at};
 ghost use Rattle.snap_why.specs.Answer.{answer_lines, call_lines, chain_lines, goto_line};
-ghost use Rattle.snap_why.specs.Answer.{goto_text, lender_lines, lender_of};
+ghost use Rattle.snap_why.specs.Answer.{goto_text, lender_lines, lender_of, own_lines};
 ghost use Rattle.snap_why.specs.Answer.{process_text, scan_lines, taken_lines, taken_or_own};
 ghost use Rattle.snap_why.specs.Answer.{verdict_with, view_lines, writer_lines, written_lines};
 
-use snap_acts::{Borrowed, ScanPlaces, TraceStep, view_taken};
+use snap_acts::{Borrowed, ScanPlaces, TraceStep, set_for, view_taken};
 use snap_audit::{Verdict, push_verdict_line};
 use snap_text::Draft;
 
@@ -113,23 +113,46 @@ fn push_taken(out: &mut Draft, steps: &[TraceStep], view: Borrowed)
     push_written(out, steps, view.written, view.lender);
 }
 
-/// Appends the borrowed view, or that there is none.
-fn push_taken_or_own(out: &mut Draft, steps: &[TraceStep], view: Option<Borrowed>)
-    ensures { Adds out.old out.new (taken_or_own steps.now view) }
+/// Appends how a process came by a view that its scan, which began at `from`, did not take: it set
+/// its local at the place `set`.
+fn push_own(out: &mut Draft, steps: &[TraceStep], from: usize, set: Option<usize>)
+    ensures { Adds out.old out.new (own_lines steps.now from set) }
 {
-    match view {
-        Some(view) => push_taken(out, steps, view),
-        None => out.push(b" took no view: it read these values itself\n"),
+    match set {
+        None => out.push(b" set no view in this scan, nor before it\n"),
+        Some(place) => {
+            if place < from {
+                push_goto_line(
+                    out,
+                    b" set no view in this scan; it had set this one before",
+                    item_at(steps, place),
+                );
+            } else {
+                out.push(b" took no view: it read these values itself\n");
+            }
+        }
     }
 }
 
-/// Appends the view that a process took, if its scan took one.
-#[tactic(auto, unfolding(crate::specs::Answer::view_lines))]
-fn push_view(out: &mut Draft, steps: &[TraceStep], process: u32, view: Option<Borrowed>)
-    ensures { Adds out.old out.new (view_lines steps.now process view) }
+/// Appends the view that a scan took, or how it came by its own.
+fn push_taken_or_own(out: &mut Draft, steps: &[TraceStep], scan: ScanPlaces, view: Option<Borrowed>)
+    requires { scan.to ≤ length steps.now }
+    ensures { Adds out.old out.new (taken_or_own steps.now scan view) }
 {
-    push_process(out, process);
-    push_taken_or_own(out, steps, view);
+    match view {
+        Some(view) => push_taken(out, steps, view),
+        None => push_own(out, steps, scan.from, set_for(steps, scan.to)),
+    }
+}
+
+/// Appends where the view comes from with which a scan ends.
+#[tactic(auto, unfolding(crate::specs::Answer::view_lines))]
+fn push_view(out: &mut Draft, steps: &[TraceStep], scan: ScanPlaces, view: Option<Borrowed>)
+    requires { scan.to ≤ length steps.now }
+    ensures { Adds out.old out.new (view_lines steps.now scan view) }
+{
+    push_process(out, scan.process);
+    push_taken_or_own(out, steps, scan, view);
 }
 
 /// Returns the lender's scan, if a view was taken.
@@ -151,7 +174,7 @@ fn push_chain(out: &mut Draft, steps: &[TraceStep], first: ScanPlaces)
             return;
         };
         let view = view_taken(steps, scan);
-        push_view(out, steps, scan.process, view);
+        push_view(out, steps, scan, view);
         next = lender_of(view);
         left -= 1;
     }

@@ -2,7 +2,7 @@
 use Rattle.std.proofs.Common.{◌≡◌, ℕ, zero, suc, ◌+◌, ◌-◌, ◌<◌, ◌≤◌, Bool, true, false, ◌&&◌, List}
 use Rattle.std.proofs.Common.{Option, Some, None, bytes_eq, nat_eq, nat_lt, nat_le, length}
 use Rattle.std.proofs.Common.{refl, sym, subst, ap, ◌∙◌, inl, inr, arith}
-use Rattle.std.proofs.lemmas.Bool.{and_parts, cases_Bool, cases_lt, eqb-false, eqb-true, ltb-true}
+use Rattle.std.proofs.lemmas.Bool.{and_parts, cases_Bool, cases_eq, cases_lt, eqb-false, eqb-true, le-leb, ltb-true}
 use Rattle.std.proofs.lemmas.Slice.Eq.{bytes_eq-Decides}
 use Rattle.snap_words.specs.Shape.{IsOneOf}
 use Rattle.snap_words.specs.Word.{Word}
@@ -25,10 +25,11 @@ use Rattle.snap_acts.specs.declared.loans.Borrowed.{Borrowed}
 use Rattle.snap_acts.specs.declared.loans.ScanPlaces.{ScanPlaces}
 use Rattle.snap_acts.specs.declared.searches.StepPattern.{StepPattern}
 use Rattle.snap_acts.specs.declared.searches.StepPattern.TheVariants as wanted
-use Rattle.snap_reading_laws.specs.loans.Held.{HasHandedOn, IsFollowed, handed_view, held, held_if_named}
+use Rattle.snap_reading_laws.specs.loans.Held.{HasHandedOn, IsFollowed, data_in, handed_view, held, held_if_named}
 use Rattle.snap_reading_laws.proofs.loans.Items.{told}
-use Rattle.snap_reading_laws.proofs.loans.Scans.{found, is_first, scan_is}
-use Rattle.snap_reading_laws.proofs.loans.Went.{Tells, named_view, register, view_in, view_register, word_in}
+use Rattle.snap_reading_laws.proofs.loans.Scans.{found, is_around, is_first, scan_is}
+use Rattle.snap_reading_laws.proofs.loans.Went.{Tells, data_of, named_view, register, view_in, view_register}
+use Rattle.snap_reading_laws.proofs.loans.Went.{word_in}
 
 first_below : (w : StepPattern) (ss : List TraceStep) (k count e : ℕ) → first_within w ss k count ≡ Some e →
     e < k + count
@@ -55,6 +56,20 @@ module _ {A : Type 0} (F : ℕ → A) (w : StepPattern) (ss : List TraceStep) (m
     | inr less ↦ elim (cases_Bool (meets w (step_at ss k))) [
       | inl here ↦ absurd (let it : Some k ≡ Some g = rw here at is in let same : k ≡ g = cc in omega arith)
       | inr other ↦ between k g e (omega arith) (rw other at is) later less
+    ]
+  ]
+
+  -- where there is none of such items from place e on, it is as it was at place e
+  unchanged : (k e : ℕ) → k ≤ most → e ≤ k → ((g : ℕ) → last_before w ss k ≡ Some g → g < e) → F k ≡ F e
+  unchanged zero e within from early = ap F (let same : zero ≡ e = omega (arith, from) in same)
+  unchanged (suc k) e within from early = elim (cases_eq (suc k) e) [
+    | inl same ↦ ap F same
+    | inr apart ↦ elim (cases_Bool (meets w (step_at ss k))) [
+      | inl here ↦
+          absurd (let less : k < e = early k (rw here refl) in omega (arith, less, from, apart))
+      | inr other ↦
+          frame k (omega arith) other
+          ∙ unchanged k e (omega arith) (omega (arith, from, apart)) (λ g is. early g (rw other is))
     ]
   ]
 
@@ -97,6 +112,14 @@ has_read : (spot : Spot) (l l' : Locals) (m m' : Memory) (a : Act) → reads_int
 has_read spot l l' m m' (act.Read word into) e h =
     record { word = word; is = refl; first = h.0; has = at_spot spot into l' (register m word) e h.1 }
 has_read spot l l' m m' _ e h = absurd cc
+
+-- an item that sets a view and takes none makes it of words
+collects : (x : Name) (l l' : Locals) (m m' : Memory) (a : Act) → sets_view x a ≡ true → takes_view a ≡ false →
+    Tells l m a m' l' → (y : Name) × (view_in l' x ≡ data_of l y (length (view_in l' x)))
+collects x l l' m m' (act.Collect z) e none h =
+    subst (λ (q : Name). (y : Name) × (view_in l' q ≡ data_of l y (length (view_in l' q))))
+    ((bytes_eq-Decides z x).0 e) h
+collects x l l' m m' _ e none h = absurd cc
 
 module _ (r : Run) (listing : IsListing r.source) (valid : IsValidRun r) where
   abbrev ss : List TraceStep
@@ -345,6 +368,57 @@ module _ (r : Run) (listing : IsListing r.source) (valid : IsValidRun r) where
       h ∙ ap (λ (a : Act). held_if_named r (process k) (handed_on a) k) is
   handed_of k _ is h = tt
 
+  -- a scan that took no view set its own by an item that takes none
+  not_taken : (o : Option ℕ) (a k : ℕ) → o ≡ Some k → view_taken_at ss (taken_from ss a o) ≡ None → a ≤ k →
+      takes_view (step_at ss k).act ≡ false
+  not_taken None a k same none from = absurd cc
+  not_taken (Some j) a k same none from =
+      let is : j ≡ k = cc in
+      elim (cases_Bool (nat_le a j && takes_view (step_at ss j).act)) [
+        | inl takes ↦ absurd (let wrong = rw takes at none in cc)
+        | inr takes ↦
+            let within : nat_le a j ≡ true = le-leb a j (omega (arith, is, from)) in
+            rw (← is) (rw within at takes)
+      ]
+
+  made_named : (i to k : ℕ) (x : Option Name) → IsOneOf r.shape.n i → to ≤ most → set_if_named ss i x to ≡ Some k →
+      takes_view (step_at ss k).act ≡ false →
+      (y : Name) × (held_if_named r i x to ≡ data_in r i y k (length (held_if_named r i x to)))
+  made_named i to k None one within set none = absurd cc
+  made_named i to k (Some x) one within set none =
+      let at = found (wanted.Sets i x) ss to k set in
+      let mine = and_parts (nat_eq (process k) i) (sets_view x (step_at ss k).act) at.1 in
+      let less : k < most = (let before = at.0 in omega (arith, before, within)) in
+      let stays : held r i x to ≡ held r i x (suc k) = since (λ (t : ℕ). held r i x t) (wanted.Sets i x) ss most
+      (λ t before away. held_frame i t x one before away) to k within set in
+      subst (λ (v : List ℕ). (y : Name) × (v ≡ data_in r i y k (length v))) (sym stays)
+      (subst (λ (j : ℕ). (y : Name) × (held r j x (suc k) ≡ data_in r j y k (length (held r j x (suc k)))))
+      (eqb-true (process k) i mine.0)
+      (collects x (locals k (process k)) (locals (suc k) (process k)) (state r k).memory (state r (suc k)).memory
+      (step_at ss k).act mine.1 none (told r k listing valid less).went.tells))
+
+  made_is : (s : ScanPlaces) (k : ℕ) → s.to < most → set_for ss s.to ≡ Some k → s.from ≤ k → view_taken ss s ≡ None →
+      (y : Name) × (handed_view r s.to ≡ data_in r (process s.to) y k (length (handed_view r s.to)))
+  unfolding view_taken
+  made_is s k within set from none =
+      made_named (process s.to) s.to k (handed_on (step_at ss s.to).act) (told r s.to listing valid within).one
+      (omega (arith, within)) set (not_taken (set_for ss s.to) s.from k set none from)
+
+  kept_named : (i to from : ℕ) (x : Option Name) → IsOneOf r.shape.n i → to ≤ most → from ≤ to →
+      ((k : ℕ) → set_if_named ss i x to ≡ Some k → k < from) → held_if_named r i x to ≡ held_if_named r i x from
+  kept_named i to from None one within order early = refl
+  kept_named i to from (Some x) one within order early =
+      unchanged (λ (t : ℕ). held r i x t) (wanted.Sets i x) ss most (λ t before away. held_frame i t x one before away)
+      to from within order early
+
+  alone_is : (w d link a b : ℕ) (view : List ℕ) → w < most → lender_at ss (Some w) ≡ None → set_for ss w ≡ Some d →
+      FinishedScan r (process w) (Some link) (suc a) (suc b) view → a < d → d < b → b < w → ⊥
+  alone_is w d link a b view within none set scan from to before =
+      let around = is_around r listing valid (process w) (told r w listing valid within).one link a b view scan d w from
+      to before in
+      let nowhere : scan_around ss (process w) w (Some d) ≡ None = rw set at none in
+      absurd (let wrong : Some (scan_of (process w) a b) ≡ None = sym around ∙ nowhere in cc)
+
 -- in every run of any listing
 pub followed : (r : Run) → IsListing r.source → IsValidRun r → IsFollowed r
 followed r listing valid = record {
@@ -357,4 +431,10 @@ followed r listing valid = record {
       (told r w listing valid within).one (omega (arith, within)) e;
   scans = lender_scans r listing valid;
   returned = lender_returned r listing valid;
+  made = made_is r listing valid;
+  kept = λ s order within early.
+      kept_named r listing valid (step_at (trace_of r) s.to).process s.to s.from
+      (handed_on (step_at (trace_of r) s.to).act) (told r s.to listing valid within).one (omega (arith, within)) order
+      early;
+  alone = alone_is r listing valid;
 }

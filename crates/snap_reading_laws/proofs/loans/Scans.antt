@@ -1,7 +1,7 @@
 -- The lender of a view is a whole scan of an update of the process that wrote the view (`FinishedScan`).
-use Rattle.std.proofs.Common.{◌≡◌, ◌⊎◌, inl, inr, ℕ, zero, suc, ◌+◌, ◌<◌, ◌≤◌, true, false, ◌&&◌, nat_eq}
-use Rattle.std.proofs.Common.{List, [], Option, Some, length, refl, sym, subst, ap, ◌∙◌, arith}
-use Rattle.std.proofs.lemmas.Bool.{and_parts, cases_Bool, cases_eq, cases_lt, eq-eqb, eqb-false, eqb-true}
+use Rattle.std.proofs.Common.{◌≡◌, ◌⊎◌, inl, inr, ℕ, zero, suc, ◌+◌, ◌-◌, ◌<◌, ◌≤◌, true, false, ◌&&◌, nat_eq}
+use Rattle.std.proofs.Common.{List, [], Option, Some, None, length, refl, sym, subst, ap, ◌∙◌, arith}
+use Rattle.std.proofs.lemmas.Bool.{and_parts, cases_Bool, cases_eq, cases_lt, eq-eqb, eqb-false, eqb-true, lt-ltb}
 use Rattle.snap_words.specs.Shape.{IsOneOf}
 use Rattle.snap_semantics.specs.IsListing.{IsListing}
 use Rattle.snap_semantics.specs.Source.{Name, Source}
@@ -12,9 +12,9 @@ use Rattle.snap_semantics.specs.declared.instr.Instr.TheVariants.{Return}
 use Rattle.snap_semantics.specs.declared.process.Status.{Status}
 use Rattle.snap_semantics.specs.declared.process.Status.TheVariants.{Busy}
 use Rattle.snap_runs.specs.Run.{IsValidRun, Run, state}
-use Rattle.snap_runs.specs.Scan.{Ends, FinishedScan, ReturnsView, line_in, link_in}
+use Rattle.snap_runs.specs.Scan.{Ends, FinishedScan, IsCallLine, ReturnsView, line_in, link_in}
 use Rattle.snap_acts.specs.Trace.{trace_of}
-use Rattle.snap_acts.specs.Loans.{handed_on, step_at}
+use Rattle.snap_acts.specs.Loans.{handed_on, scan_around, step_at}
 use Rattle.snap_acts.specs.Searches.{first_within, is_enter, is_leave, last_before, meets}
 use Rattle.snap_acts.specs.declared.act.Act.{Act}
 use Rattle.snap_acts.specs.declared.act.Act.TheVariants as act
@@ -70,6 +70,11 @@ line_returned : (f : Option Instr) (l : Locals) (view : List ℕ) → ReturnsVie
     (y : Name) × (f ≡ Some (Return y))
 line_returned (Some (Return x)) l view h = (x, refl)
 line_returned _ l view h = absurd h
+
+-- a process that goes on nowhere stands at no line that calls
+calls_nowhere : (s : Source) (u : Status) → IsStuck u → IsCallLine (line_in s u) → ⊥
+calls_nowhere s (Busy a) h line = absurd h
+calls_nowhere s _ h line = absurd line
 
 stands_nowhere : (s : Source) (u : Status) (i : Instr) → IsStuck u → line_in s u ≡ Some i → ⊥
 stands_nowhere s (Busy a) i h line = absurd h
@@ -177,3 +182,101 @@ module _ (r : Run) (listing : IsListing r.source) (valid : IsValidRun r) (i : �
           let one_way = away t (omega (arith, from)) (omega (arith, to)) in
           let other_way = ends_leaves k t view (omega (arith, to, less)) is in
           (let wrong : false ≡ true = sym one_way ∙ other_way in absurd cc)
+
+  -- a finished scan of an update, with all that lies within it
+  module _ (k a b : ℕ) (view : List ℕ) (scan : FinishedScan r i (Some k) (suc a) (suc b) view) where
+    before_end : a < b
+    before_end = let order = scan.order in omega (arith, order)
+
+    in_run : b < most
+    in_run = let last = scan.scan.last in omega (arith, last)
+
+    no_leave_at : (t : ℕ) → a < t → t < b → Within k t → meets (wanted.Leave i) (step_at ss t) ≡ false
+    no_leave_at t from to inside = elim (cases_Bool (meets (wanted.Leave i) (step_at ss t))) [
+      | inr away ↦ away
+      | inl is ↦
+          let less : t < most = (let run = in_run in omega (arith, to, run)) in
+          let his = and_parts (nat_eq (process t) i) (is_leave (step_at ss t).act) is in
+          let left = is_left (step_at ss t).act his.1 in
+          let own = rw (eqb-true (process t) i his.0) at (turn r t listing valid less).0 in
+          let returns = own.leaves left.0 left.1 in
+          let link : link_in (status t) ≡ Some k = elim inside [
+            | inl has ↦ has
+            | inr stuck ↦ absurd (stands_nowhere r.source (status t) (Return left.0) stuck returns.line)
+          ] in
+          absurd (scan.scan.goes_on (suc t) (value_at left.0 (process_at (state r t) i).locals.views [])
+          (omega (arith, from)) (omega (arith, to)) (returns.item, rw returns.line refl, link))
+    ]
+
+    inside_scan : (t : ℕ) → a < t → t ≤ b → Within k t
+    inside_scan zero from to = absurd (omega (arith, from))
+    inside_scan (suc t) from to = elim (cases_lt a t) [
+      | inl later ↦
+          let so_far = inside_scan t later (omega (arith, to)) in
+          let run = in_run in
+          stays k t (omega (arith, to, run)) (no_leave_at t later (omega (arith, to)) so_far) so_far
+      | inr first ↦
+          subst (Within k) (let same : suc a ≡ suc t = omega (arith, from, first) in same) (inl scan.scan.starts.3)
+    ]
+
+    begins_there : meets (wanted.Enter i) (step_at ss a) ≡ true
+    begins_there =
+        let less : a < most = (let run = in_run in let before = before_end in omega (arith, run, before)) in
+        let is_his : process a ≡ i = (turn r a listing valid less).1 ∙ ap who scan.scan.starts.0 in
+        let own = rw is_his at (turn r a listing valid less).0 in
+        ap (λ b. b && is_enter (step_at ss a).act) (eq-eqb (process a) i is_his)
+        ∙ own.calls scan.scan.starts.1 scan.scan.starts.2
+
+    no_enter_at : (t : ℕ) → a < t → t < b → meets (wanted.Enter i) (step_at ss t) ≡ false
+    no_enter_at t from to = elim (cases_Bool (meets (wanted.Enter i) (step_at ss t))) [
+      | inr away ↦ away
+      | inl is ↦
+          let less : t < most = (let run = in_run in omega (arith, to, run)) in
+          let his = and_parts (nat_eq (process t) i) (is_enter (step_at ss t).act) is in
+          let own = rw (eqb-true (process t) i his.0) at (turn r t listing valid less).0 in
+          let begins = own.enters (is_entered (step_at ss t).act his.1) in
+          absurd (elim (inside_scan t from (omega (arith, to))) [
+            | inl has ↦ let free = begins.free in (let wrong : None ≡ Some k = sym free ∙ has in absurd cc)
+            | inr stuck ↦ calls_nowhere r.source (status t) stuck begins.line
+          ])
+    ]
+
+    no_leave_from : (t : ℕ) → a ≤ t → t < b → meets (wanted.Leave i) (step_at ss t) ≡ false
+    no_leave_from t from to = elim (cases_lt a t) [
+      | inl later ↦ no_leave_at t later to (inside_scan t later (omega (arith, to)))
+      | inr first ↦
+          let his = and_parts (nat_eq (process a) i) (is_enter (step_at ss a).act) begins_there in
+          subst (λ (u : ℕ). meets (wanted.Leave i) (step_at ss u) ≡ false)
+          (let same : a ≡ t = omega (arith, from, first) in same)
+          (rw (his.0, is_entered (step_at ss a).act his.1) refl)
+    ]
+
+    last_begun : (d : ℕ) → a < d → d ≤ b → last_before (wanted.Enter i) ss d ≡ Some a
+    last_begun zero from to = absurd (omega (arith, from))
+    last_begun (suc d) from to = elim (cases_lt a d) [
+      | inl later ↦ rw (no_enter_at d later (omega (arith, to))) (last_begun d later (omega (arith, to)))
+      | inr first ↦
+          subst (λ (t : ℕ). last_before (wanted.Enter i) ss (suc t) ≡ Some a)
+          (let same : a ≡ d = omega (arith, from, first) in same) (rw begins_there refl)
+    ]
+
+    first_ended : (t count : ℕ) → a ≤ t → t ≤ b → b < t + count →
+        first_within (wanted.Leave i) ss t count ≡ Some b
+    first_ended t zero from to within = absurd (omega (arith, to, within))
+    first_ended t (suc count) from to within = elim (cases_lt t b) [
+      | inl before ↦
+          rw (no_leave_from t from before)
+          (first_ended (t + 1) count (omega (arith, from)) (omega (arith, before)) (omega (arith, within)))
+      | inr last ↦
+          subst (λ (u : ℕ). first_within (wanted.Leave i) ss u (suc count) ≡ Some b)
+          (let same : b ≡ t = omega (arith, to, last) in same)
+          (rw (ends_leaves k b view in_run scan.ends) refl)
+    ]
+
+    -- it is found around each place within it
+    pub is_around : (d w : ℕ) → a < d → d < b → b < w →
+        scan_around ss i w (Some d) ≡ Some (record { process = i; from = a; to = b })
+    is_around d w from to before =
+        rw (last_begun d from (omega (arith, to)))
+        (rw (first_ended a (w - a) (omega arith) (omega (arith, from, to)) (omega (arith, from, to, before)))
+        (rw (lt-ltb d b to) refl))

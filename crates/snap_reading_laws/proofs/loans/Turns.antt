@@ -11,7 +11,7 @@ use Rattle.snap_semantics.specs.declared.process.Item.{Item}
 use Rattle.snap_semantics.specs.declared.process.Item.TheVariants as item
 use Rattle.snap_semantics.specs.declared.process.Outcome.{Outcome}
 use Rattle.snap_semantics.specs.declared.process.Outcome.TheVariants as outcome
-use Rattle.snap_semantics.specs.declared.instr.Instr.TheVariants.{Return}
+use Rattle.snap_semantics.specs.declared.instr.Instr.TheVariants.{Call, Return}
 use Rattle.snap_semantics.specs.declared.process.Cause.{Cause}
 use Rattle.snap_semantics.specs.declared.process.Op.{Op}
 use Rattle.snap_semantics.specs.declared.process.Activity.{Activity}
@@ -22,7 +22,7 @@ use Rattle.snap_semantics.specs.State.{Locals, Memory, Process, State, nobody, p
 use Rattle.snap_semantics.specs.Table.{return_goes, Effect, Goes, call, call_skip, called, crash}
 use Rattle.snap_semantics.specs.Table.{effect, effect_at, leave, step, done, who}
 use Rattle.snap_semantics.specs.Value.{Context}
-use Rattle.snap_acts.specs.Searches.{is_leave}
+use Rattle.snap_acts.specs.Searches.{is_enter, is_leave}
 use Rattle.snap_acts.specs.declared.act.Act.{Act}
 use Rattle.snap_acts.specs.declared.act.Act.TheVariants as act
 use Rattle.snap_reading_laws.proofs.Lines.{IsLinked, Links, links}
@@ -48,6 +48,7 @@ pub record Begins (s : Source) (i : ℕ) (x : Item) (u : Status) (o : Outcome) (
   pub item : x ≡ item.Step i
   pub line : IsCallLine (line_in s u)
   pub goes : o ≡ outcome.Stepped
+  pub free : link_in u ≡ None
   pub link : ℕ
   pub has : link_in u' ≡ Some link
 
@@ -61,11 +62,18 @@ pub record Returns (s : Source) (i : ℕ) (x : Item) (u : Status) (y : Name) : T
 -- what an item of process i, which did this, makes of its status
 pub record Turn (s : Source) (i : ℕ) (x : Item) (u : Status) (t : Act) (o : Outcome) (u' : Status) : Type 0 where
   pub enters : t ≡ act.Enter → Begins s i x u o u'
+  pub calls : IsCallLine (line_in s u) → o ≡ outcome.Stepped → is_enter t ≡ true
   pub leaves : (y : Name) → t ≡ act.Leave y → Returns s i x u y
   pub stays : (k : ℕ) → is_leave t ≡ false → link_in u ≡ Some k → (link_in u' ≡ Some k) ⊎ IsStuck u'
   pub stuck : IsStuck u → IsStuck u'
   pub returns : (y : Name) (k : ℕ) → x ≡ item.Step i → line_in s u ≡ Some (Return y) → link_in u ≡ Some k →
       is_leave t ≡ true
+
+-- a line that calls is about to begin a scan
+call_enters : (c : Context) (S : State) (i : ℕ) (j : Instr) → IsCallLine (Some j) →
+    is_enter (stepped (intent_of_line c j) S i) ≡ true
+call_enters c S i (Call target) h = refl
+call_enters c S i _ h = absurd h
 
 return_goes_on : (m : Memory) (l : Locals) (v : List ℕ) (o : Op) (link : Option ℕ) (k : ℕ) (c : Cause) →
     link ≡ Some k → return_goes m l v o link ≡ Err c → ⊥
@@ -74,10 +82,11 @@ return_goes_on m l v o None k c has e = absurd cc
 
 module _ (s : Source) (shape : Counts) (i : ℕ) where
   -- an item that changes nothing
-  rests : {x : Item} {u u' : Status} {o : Outcome} → u' ≡ u →
+  rests : {x : Item} {u u' : Status} {o : Outcome} → u' ≡ u → (o ≡ outcome.Stepped → ⊥) →
       ((y : Name) → x ≡ item.Step i → line_in s u ≡ Some (Return y) → ⊥) → Turn s i x u act.Skip o u'
-  rests {x} {u} {u'} {o} same none = subst (Turn s i x u act.Skip o) (sym same) (record {
+  rests {x} {u} {u'} {o} same idle none = subst (Turn s i x u act.Skip o) (sym same) (record {
     enters = λ is. absurd cc;
+    calls = λ line goes. absurd (idle goes);
     leaves = λ y is. absurd cc;
     stays = λ k away has. inl has;
     stuck = λ h. h;
@@ -85,12 +94,14 @@ module _ (s : Source) (shape : Counts) (i : ℕ) where
   })
 
   -- an operation that traps, ends or begins at a step or a call
-  stops : {x : Item} {u : Status} {t : Act} {o : Outcome} {v : Status} (u' : Status) → u' ≡ v → (t ≡ act.Enter → ⊥) →
+  stops : {x : Item} {u : Status} {t : Act} {o : Outcome} {v : Status} (u' : Status) → u' ≡ v →
+      (o ≡ outcome.Stepped → ⊥) → (t ≡ act.Enter → ⊥) →
       ((y : Name) → t ≡ act.Leave y → ⊥) → ((k : ℕ) → link_in u ≡ Some k → IsStuck u') → (IsStuck u → IsStuck u') →
       ((y : Name) (k : ℕ) → x ≡ item.Step i → line_in s u ≡ Some (Return y) → link_in u ≡ Some k → ⊥) →
       Turn s i x u t o v
-  stops {x} {u} {t} {o} {v} u' same enters leaves stays stuck returns = subst (Turn s i x u t o) same (record {
+  stops {x} {u} {t} {o} {v} u' same idle enters leaves stays stuck returns = subst (Turn s i x u t o) same (record {
     enters = λ is. absurd (enters is);
+    calls = λ line goes. absurd (idle goes);
     leaves = λ y is. absurd (leaves y is);
     stays = λ k away has. inr (stays k has);
     stuck = stuck;
@@ -123,9 +134,11 @@ module _ (s : Source) (shape : Counts) (i : ℕ) where
           item = refl;
           line = subst IsCallLine (sym there) g.0;
           goes = refl;
+          free = g.1;
           link = g.2;
           has = g.3;
         });
+        calls = λ line goes. call_enters c S' i j (subst IsCallLine there line);
         leaves = λ y is. (let g = subst (λ (v : Act). IsLinked j v a.link link) is (h S') in record {
           item = refl;
           line = there ∙ ap (λ (v : Instr). Some v) g.0;
@@ -140,12 +153,12 @@ module _ (s : Source) (shape : Counts) (i : ℕ) where
       })
   leave_turn S a c j (Ok _) one count there h fails =
       stops Idle (own_status S S.memory (record { status = Idle; locals = (process_at S i).locals }) one count)
-      (λ is. absurd cc) (λ y is. absurd cc) (λ k has. none_some a.link k (h S) has) (λ none. absurd none)
-      (λ y k is line has. none_some a.link k (h S) has)
+      (λ goes. absurd cc) (λ is. absurd cc) (λ y is. absurd cc) (λ k has. none_some a.link k (h S) has)
+      (λ none. absurd none) (λ y k is line has. none_some a.link k (h S) has)
   leave_turn S a c j (Err w) one count there h fails =
       stops (Trapped w a)
       (own_status S S.memory (record { status = Trapped w a; locals = (process_at S i).locals }) one count)
-      (λ is. absurd cc) (λ y is. absurd cc) (λ k has. tt) (λ none. tt)
+      (λ goes. absurd cc) (λ is. absurd cc) (λ y is. absurd cc) (λ k has. tt) (λ none. tt)
       (λ y k is line has. fails y k w (let both : Some j ≡ Some (Return y) = sym there ∙ line in cc) has refl)
 
   busy_turn : (S : State) (a : Activity) (c : Context) (found : Option Instr) → IsOneOf shape.n i →
@@ -156,7 +169,7 @@ module _ (s : Source) (shape : Counts) (i : ℕ) where
   busy_turn S a c None one count there me =
       stops (Trapped cause.OffEnd a)
       (own_status S S.memory (record { status = Trapped cause.OffEnd a; locals = (process_at S i).locals }) one count)
-      (λ is. absurd cc) (λ y is. absurd cc) (λ k has. tt) (λ none. tt)
+      (λ goes. absurd cc) (λ is. absurd cc) (λ y is. absurd cc) (λ k has. tt) (λ none. tt)
       (λ y k is line has. absurd (let both : None ≡ Some (Return y) = sym there ∙ line in cc))
   busy_turn S a c (Some j) one count there me =
       leave_turn S a c j (effect s c S.memory a j) one count there
@@ -171,23 +184,23 @@ module _ (s : Source) (shape : Counts) (i : ℕ) where
       (process_at r.0 i).status)
   step_turn S (Busy a) is one count =
       busy_turn S a (context_of shape i (process_at S i) a.op) (instr_at s.lines a.line) one count refl refl
-  step_turn S _ is one count = rests is (λ y same line. absurd cc)
+  step_turn S _ is one count = rests is (λ goes. absurd cc) (λ y same line. absurd cc)
 
   called_turn : (S : State) (o : Op) (why : Option Reason) → (process_at S i).status ≡ Idle → IsOneOf shape.n i →
       length S.processes ≡ shape.n → (let r = called s S i (process_at S i) o why in
       Turn s i (item.Call i o) Idle (act_of (intent_of s shape S (item.Call i o)) r.0 i (item.Call i o) r.1) r.1
       (process_at r.0 i).status)
-  called_turn S o (Some reason) is one count = rests is (λ y same line. absurd cc)
+  called_turn S o (Some reason) is one count = rests is (λ goes. absurd cc) (λ y same line. absurd cc)
   called_turn S o None is one count =
-      stops _ (own_status S S.memory _ one count) (λ e. absurd cc) (λ y e. absurd cc) (λ k has. absurd cc)
-      (λ none. absurd none) (λ y k same line has. absurd cc)
+      stops _ (own_status S S.memory _ one count) (λ goes. absurd cc) (λ e. absurd cc) (λ y e. absurd cc)
+      (λ k has. absurd cc) (λ none. absurd none) (λ y k same line has. absurd cc)
 
   call_turn : (S : State) (o : Op) (u : Status) → (process_at S i).status ≡ u → IsOneOf shape.n i →
       length S.processes ≡ shape.n → (let r = call s shape S i o (process_at S i) u in
       Turn s i (item.Call i o) u (act_of (intent_of s shape S (item.Call i o)) r.0 i (item.Call i o) r.1) r.1
       (process_at r.0 i).status)
   call_turn S o Idle is one count = called_turn S o (call_skip s.kind shape i o) is one count
-  call_turn S o _ is one count = rests is (λ y same line. absurd cc)
+  call_turn S o _ is one count = rests is (λ goes. absurd cc) (λ y same line. absurd cc)
 
   crashed_turn : (S : State) (u : Status) (was : Option Activity) → IsOneOf shape.n i →
       length S.processes ≡ shape.n →
@@ -199,7 +212,8 @@ module _ (s : Source) (shape : Counts) (i : ℕ) where
   crashed_turn S u was one count =
       stops (Crashed was)
       (own_status S S.memory (record { status = Crashed was; locals = (process_at S i).locals }) one count)
-      (λ e. absurd cc) (λ y e. absurd cc) (λ k has. tt) (λ none. tt) (λ y k same line has. absurd cc)
+      (λ goes. absurd cc) (λ e. absurd cc) (λ y e. absurd cc) (λ k has. tt) (λ none. tt)
+      (λ y k same line has. absurd cc)
 
   crash_turn : (S : State) (u : Status) → (process_at S i).status ≡ u → IsOneOf shape.n i →
       length S.processes ≡ shape.n → (let r = crash S i (process_at S i) u in
@@ -207,7 +221,7 @@ module _ (s : Source) (shape : Counts) (i : ℕ) where
       (process_at r.0 i).status)
   crash_turn S (Busy a) is one count = crashed_turn S (Busy a) (Some a) one count
   crash_turn S Idle is one count = crashed_turn S Idle None one count
-  crash_turn S _ is one count = rests is (λ y same line. absurd cc)
+  crash_turn S _ is one count = rests is (λ goes. absurd cc) (λ y same line. absurd cc)
 
 -- each item
 pub done_turn : (s : Source) (shape : Counts) (S : State) (t : ℕ) (x : Item) → IsOneOf shape.n (who x) →

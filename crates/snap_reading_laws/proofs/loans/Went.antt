@@ -1,7 +1,7 @@
 -- `Went`: what an item leaves of the views and words in registers and locals: what it sets is as its act tells, and
 -- all else stays.
 use Rattle.std.proofs.Common.{◌≡◌, ◌≢◌, ℕ, ◌-◌, ◌<◌, Bool, true, false, ◌&&◌, List, [], Option, Some, None}
-use Rattle.std.proofs.Common.{bytes_eq, nat_eq, get_or, length, set, refl, sym, subst, ap, ◌∙◌, arith}
+use Rattle.std.proofs.Common.{bytes_eq, nat_eq, get_or, length, map, set, take, refl, sym, subst, ap, ◌∙◌, arith}
 use Rattle.std.proofs.lemmas.Bool.{eqb-false}
 use Rattle.std.proofs.lemmas.List.{get_or-set_other, get_or-set_same, length-set}
 use Rattle.std.proofs.lemmas.Slice.Eq.{bytes_eq-Decides}
@@ -34,6 +34,10 @@ register m j = get_or m.words (j - 1) no_word
 abbrev pub view_register : Memory → ℕ → List ℕ
 view_register m j = get_or m.views (j - 1) []
 
+-- the data of the first words in a local, so many
+abbrev pub data_of : Locals → Name → (count : ℕ) → List ℕ
+data_of l y count = map (λ (w : Word). w.datum) (take count (value_at y l.words []))
+
 -- what an act tells of the registers and locals before and after it
 abbrev pub Tells : Locals → Memory → Act → Memory → Locals → Type 0
 Tells l m (act.Answer v x) m' l' = v ≡ named_view l x
@@ -42,6 +46,7 @@ Tells l m (act.Publish j x) m' l' = view_register m' j ≡ view_in l x
 Tells l m (act.Read j spot) m' l' = (0 < j) × (word_in l' spot ≡ register m j)
 Tells l m (act.Look j x) m' l' = (0 < j) × (view_in l' x ≡ view_register m j)
 Tells l m (act.Borrow spot x) m' l' = (0 < spot.place) × (view_in l' x ≡ (word_in l spot).view)
+Tells l m (act.Collect x) m' l' = (y : Name) × (view_in l' x ≡ data_of l y (length (view_in l' x)))
 Tells l m _ m' l' = Unit {0}
 
 pub record Went (l : Locals) (m : Memory) (a : Act) (m' : Memory) (l' : Locals) : Type 0 where
@@ -124,9 +129,12 @@ module _ (l : Locals) (m : Memory) where
       sets x (word_in l spot).view (act.Borrow spot x) (λ y. refl)
       (one, with_there x (word_in l spot).view l.views long)
 
-  -- a view that is collected is made of words
-  pub collected : (x : Name) (v : List ℕ) → Went l m (act.Collect x) m (with_view x v l)
-  collected x v = sets x v (act.Collect x) (λ y. refl) tt
+  -- a view that is collected is made of the words in a local
+  pub collected : (x y : Name) (v : List ℕ) → length (view_in l x) ≡ length v → v ≡ data_of l y (length v) →
+      Went l m (act.Collect x) m (with_view x v l)
+  collected x y v long is =
+      let there : view_in (with_view x v l) x ≡ v = with_there x v l.views long in
+      sets x v (act.Collect x) (λ z. refl) (y, there ∙ is ∙ ap (λ (u : List ℕ). data_of l y (length u)) (sym there))
 
   -- a word is written
   pub wrote : (j : ℕ) (values : List ℕ) (x : Option Name) (word : Word) → 0 < j → j - 1 < length m.words →

@@ -1,15 +1,15 @@
 -- `ViewsAreFollowed`: the view in a local is the one that was written where it is said to come from. Places in the
 -- trace of a run count from 0, so before place k the run is in state k.
-use Rattle.std.specs.Prelude.{◌≡◌, ◌<◌, ◌≤◌, ◌-◌, ℕ, suc, List, [], length, Option, Some, None, get_or}
+use Rattle.std.specs.Prelude.{◌≡◌, ◌<◌, ◌≤◌, ◌-◌, ℕ, suc, List, [], length, map, take, Option, Some, None, get_or}
 use Rattle.snap_words.specs.Shape.{IsOneOf}
-use Rattle.snap_words.specs.Word.{no_word}
+use Rattle.snap_words.specs.Word.{Word, no_word}
 use Rattle.snap_semantics.specs.IsListing.{IsListing}
 use Rattle.snap_semantics.specs.Source.{Name}
 use Rattle.snap_semantics.specs.State.{process_at, value_at}
 use Rattle.snap_runs.specs.Run.{Run, IsValidRun, state}
 use Rattle.snap_runs.specs.Scan.{FinishedScan}
 use Rattle.snap_acts.specs.Trace.{trace_of}
-use Rattle.snap_acts.specs.Loans.{handed_on, lender_at, source_of, step_at, view_taken}
+use Rattle.snap_acts.specs.Loans.{handed_on, lender_at, set_for, source_of, step_at, view_taken}
 use Rattle.snap_acts.specs.declared.act.Act.{Act}
 use Rattle.snap_acts.specs.declared.act.Act.TheVariants as act
 use Rattle.snap_acts.specs.declared.act.TraceStep.{TraceStep}
@@ -36,6 +36,10 @@ handed_at r w k = held_if_named r (step r w).process (handed_on (step r w).act) 
 -- the view that the item at place k answers, returns or writes
 abbrev pub handed_view : Run → ℕ → List ℕ
 handed_view r k = handed_at r k k
+
+-- the data of the first words in local y of process i before place k, so many
+abbrev pub data_in : Run → ℕ → Name → ℕ → (count : ℕ) → List ℕ
+data_in r i y k count = map (λ (w : Word). w.datum) (take count (value_at y (process_at (state r k) i).locals.words []))
 
 -- what an item that hands on a view has done: it has answered that view, or written it into its register
 abbrev pub HasHandedOn : Run → ℕ → Act → Type 0
@@ -66,6 +70,18 @@ pub record IsFollowed (r : Run) : Type 0 where
   -- view
   pub returned : (w : ℕ) (s : ScanPlaces) → w < length r.items → lender_at (trace_of r) (Some w) ≡ Some s →
       handed_on (step r s.to).act ≡ handed_on (step r w).act → handed_view r w ≡ handed_view r s.to
+  -- a scan that set its view and took none made it of the words that a local of its process had then
+  pub made : (s : ScanPlaces) (k : ℕ) → s.to < length r.items → set_for (trace_of r) s.to ≡ Some k → s.from ≤ k →
+      view_taken (trace_of r) s ≡ None →
+      (y : Name) × (handed_view r s.to ≡ data_in r (step r s.to).process y k (length (handed_view r s.to)))
+  -- a scan that set no view ends with the one that its local had when the scan began
+  pub kept : (s : ScanPlaces) → s.from ≤ s.to → s.to < length r.items →
+      ((k : ℕ) → set_for (trace_of r) s.to ≡ Some k → k < s.from) → handed_view r s.to ≡ handed_at r s.to s.from
+  -- a view that was written, and is told to be of no scan of an update, was set by its writer within no such scan that
+  -- had ended
+  pub alone : (w d link a b : ℕ) (view : List ℕ) → w < length r.items → lender_at (trace_of r) (Some w) ≡ None →
+      set_for (trace_of r) w ≡ Some d → FinishedScan r (step r w).process (Some link) (suc a) (suc b) view → a < d →
+      d < b → b < w → ⊥
 
 -- in every run of any listing
 abbrev pub ViewsAreFollowed : Type 0

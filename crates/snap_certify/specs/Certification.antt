@@ -133,7 +133,7 @@ abbrev pub ended : ℕ → SeenItem → Progress → Outcome → Finding
 ended t x p outcome.Finished = if p.wrote then finding.Nothing else lacks lack.Write t x p
 ended t x p _ = finding.Nothing
 
--- the one, or the other where that is nothing
+-- the first finding, or the second if the first is nothing
 abbrev pub finding_or : Finding → Finding → Finding
 finding_or finding.Nothing other = other
 finding_or found other = found

@@ -68,7 +68,7 @@ so_far (Some missing) ws = Err missing
 abbrev pub with_found : Result (List UpdateWrite) Missing → Finding → Result (List UpdateWrite) Missing
 with_found found f = found >>= λ ws. with_finding ws f
 
--- item t is noted, before which its process was so far
+-- records item t, given the progress of its process before it
 pub record Notes (t : ℕ) (x : SeenItem) (p : Progress) (f g : Finder) : Type 0 where
   pub line : g.line ≡ f.line
   pub roles : g.roles ≡ f.roles
@@ -104,6 +104,6 @@ all_of r = record { run = r; at = length r.items }
 abbrev pub values_first : Source → Schedule → List ℕ
 values_first l s = values (state (run_over l s) 0)
 
--- what a run is certified by whose updates write so, or the first scan that has no point
+-- the certificate of a run with these writes, or the first scan that has no point
 abbrev pub pointed : Run → ℕ → List UpdateWrite → Result Evidence Missing
 pointed r line ws = points (audit r) >>= λ has. Ok (record { line = line; writes = ws; points = audit r })

@@ -26,8 +26,8 @@ pub enum Pace {
     /// One process updates, in parts, and another one scans, in parts, while a third updates and
     /// scans in between, most often whole, so that its scans witness what the others have done.
     Witnesses,
-    /// One process updates, now to the end and now to somewhere near it, while another one scans, a
-    /// part at a time, behind an update of its own.
+    /// One process updates, to completion or almost; another one makes an update of its own, and
+    /// then scans a part at a time.
     Duels,
     /// Of eight runs two are bursts, two interruptions, two duels, one has witnesses, and one
     /// rounds.

@@ -184,8 +184,8 @@ session_report s = report_at s.run s.position
 abbrev pub performance : Run → List Command → List ℕ
 performance r cs = replies_text (opened r) cs ++ session_report (after_commands (opened r) cs)
 
--- What a session answered to a command, and what it left: by the definition, or nothing is
--- left changed for want of memory.
+-- What a session answered to a command, and how it left itself: as defined, or unchanged if the
+-- command was refused or memory ran out.
 abbrev pub Obeys : {X : Type 0} → (X → List ℕ) → Result X (Fault CommandRefusal) → Session → Command → Session → Type 0
 Obeys view (Ok reply) s c s' = (commanded s c ≡ Ok s') × (view reply ≡ reply_text s' c)
 Obeys view (Err fault.Memory) s c s' = s' ≡ s

@@ -56,7 +56,7 @@ use snap_semantics::{CommandRefusal, ImageRefusal, ListingRefusal, Refusal, Sche
 use snap_text::{Draft, TextLines, Token};
 use std::alloc::{AllocError, Global};
 
-/// Appends what is no token, and the advice on it.
+/// Appends the rejected bytes, and advice on them.
 #[tactic(auto, unfolding(crate::specs::Explanation::stray_words))]
 fn push_stray_words(out: &mut Draft, piece: &[u8], advice: &[u8])
     ensures { Adds out.old out.new (stray_words piece.now advice.now) }

@@ -37,7 +37,7 @@ pub enum ProgramFault {
     /// More items than a picture has.
     #[error("a picture has no {0} items")]
     TooManyItems(u64),
-    /// The input that was to be printed of a hunt has no run that fails so.
+    /// The input of a hunt that was to be printed does not reproduce the hunt's failure.
     #[error("the run that was found does not fail")]
     Unsaid,
     /// A file has more bytes than an input may have.

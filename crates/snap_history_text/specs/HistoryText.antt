@@ -29,7 +29,7 @@ abbrev pub number_behind : ℕ → Option ℕ → Option ℕ
 number_behind last None = if nat_lt (last + 1) (2 ^ 64) then Some (last + 1) else None
 number_behind last (Some t) = if nat_lt last t then Some t else None
 
--- whether the word that is to be updated is there
+-- whether the updated word exists; every other event passes
 abbrev pub has_word : Counts → Happening → Bool
 has_word shape (what.Call op.Scan) = true
 has_word shape (what.Call (op.Update word value)) = is_place shape.w word

@@ -35,7 +35,7 @@ fn number_behind(last: u64, number: Option<u64>) -> Option<u64>
     }
 }
 
-/// Returns whether the word that is to be updated is there.
+/// Returns whether the updated word exists; every other event passes.
 fn has_word(shape: Shape, what: &Happening) -> bool
     ensures { result ≡ has_word shape what.now }
 {

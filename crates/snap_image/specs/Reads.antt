@@ -9,7 +9,7 @@ abbrev pub Reads : {A : Type 0} → Result A ImageRefusal → Rest → Read A �
 Reads (Ok x) rest answer = answer ≡ Ok (x, rest)
 Reads (Err e) rest answer = answer ≡ Err e
 
--- what is left behind a part that has one value alone
+-- the bytes after a part that has only one value
 abbrev pub Passes : Result (Unit {0}) ImageRefusal → Rest → Result Rest ImageRefusal → Type 0
 Passes (Ok x) rest answer = answer ≡ Ok rest
 Passes (Err e) rest answer = answer ≡ Err e

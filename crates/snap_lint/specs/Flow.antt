@@ -56,7 +56,7 @@ abbrev pub callee : Instr → List ℕ
 callee (Call target) = target ∷ []
 callee _ = []
 
--- the line behind a line, where it may come next and is there
+-- the line that follows a line, if there is one and control can go on to it
 abbrev pub line_after : List Line → Way → Line → Option ℕ
 line_after lines way line = if may_go_on way line.instr then following lines line.number else None
 

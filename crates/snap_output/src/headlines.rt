@@ -8,9 +8,9 @@ use snap_sched::reads_only_spelled;
 use snap_shipped::shipped_runs_keep_promises;
 
 /// For every listing, schedule and debugger commands, what is printed is what the table of lines
-/// gives; what is assembled lists back as its source; and what is written with a shipped listing is
-/// of a run in which every finished scan's view is the memory's values at one step between its call
-/// and its answer, within the bounds on double collects.
+/// gives; what is assembled lists back as its source; and each run of a shipped listing over a
+/// schedule is linearizable and wait-free, with all else that is promised of the listing: no
+/// process traps, every finished scan has a point, and double collects keep their bounds.
 pub fn headline()
     ensures { Headline }
 {

@@ -57,6 +57,6 @@ schedule_of_lines (line ∷ lines) =
 abbrev pub max_schedule : ℕ
 max_schedule = 4194304
 
--- the schedule that a text is, or the first reason why it is none
+-- the parsed schedule of a text, or its first refusal
 abbrev pub schedule_of : List ℕ → Result Schedule ScheduleRefusal
 schedule_of text = if nat_lt max_schedule (length text) then Err refusal.TooLong else schedule_of_lines (text_lines text)

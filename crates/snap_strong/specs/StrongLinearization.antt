@@ -44,8 +44,8 @@ without_end o = record { process = o.process; call = o.call; end = None; action 
 abbrev pub BeginsWith : List Operation → List Operation → Type 0
 BeginsWith longer shorter = (rest : List Operation) × (map without_end longer ≡ map without_end shorter ++ rest)
 
--- A choice of a linearization for each run that is shorter than a limit, or for each run where there is none. It is
--- kept however the run goes on, up to the limit.
+-- A choice of a linearization for each run below a limit of items, or for every run if there is no limit. The choice
+-- is kept however the run goes on, up to the limit.
 pub record IsStrongChoice (source : Source) (shape : Counts) (most : Option ℕ) (choose : List Item → List Operation)
     : Type 0 where
   -- what is chosen for a run is a linearization of it, in which scans may be completed

@@ -48,8 +48,8 @@ abbrev pub TellsSome : Source → Schedule → Devices → Type 0
 TellsSome l s d = IfSome d.left (λ input.
     ShowsSome (opened_prompt (run_over l s) d.shows d.kept) (typed_lines input) d.shown d.shown_after)
 
--- What comes of a dialog about this listing under the schedule that a text is: all of it is shown; or the schedule is
--- refused, and nothing is, nor is anything kept; or it is broken off, after a beginning of it.
+-- The end of a dialog about this listing under the schedule of a text: all of it is shown; or the schedule is refused,
+-- and nothing is shown and nothing saved; or the dialog is broken off after a beginning.
 abbrev pub Talks : Source → (schedule : List ℕ) → Result (Unit {0}) ProgramFault → Devices → Type 0
 Talks l schedule (Ok done) d =
     (s : Schedule) × (schedule_for l schedule ≡ Ok s) × TellsAll l s d × (d.failed ≡ None)

@@ -1,4 +1,4 @@
-" Vim syntax file for snaplab: listings, schedules and debugger commands, with lines % between them.
+" Vim syntax file for snaplab: listings, schedules, debugger commands and histories, with lines % between parts.
 if exists('b:current_syntax')
   finish
 endif
@@ -21,9 +21,10 @@ syntax match snaplabGiven /@/
 syntax match snaplabField /\<\(data\|seq\|toggle\|id\|hand\|view\)\ze\s*(/
 syntax match snaplabBank /\<[rqpv]\ze\s*\[/
 
-" Schedules: the shape, the process of an item, calls.
+" Schedules and histories: the shape, the process of an item or event, calls and ends.
 syntax match snaplabHeader /^\s*\zsshape\ze\s\+\d/
-syntax match snaplabCall /\(^\s*\d\+\s\+\)\@<=\(scan\|update\|crash\)\>/
+syntax match snaplabHeader /^\s*\zsevent\ze\s\+\d/
+syntax match snaplabCall /\(^\s*\(event\s\+\d\+\s\+\)\=\d\+\s\+\)\@<=\(scan\|update\|crash\|answer\|done\)\>/
 
 " Debugger commands.
 syntax match snaplabCommand /^\s*\zs\(step\|back\|goto\|run\|rrun\|break\|clear\|watch\|unwatch\|show\|values\|events\|where\)\>/

@@ -16,13 +16,14 @@ import json
 import os
 import re
 import sys
+import zlib
 
 HERE = os.path.dirname(os.path.abspath(__file__))
 TOP = os.path.dirname(HERE)
 PAGE = os.path.join(HERE, "snaplab.html")
 GALLERY = ("gallery.md", "gallery-2.md")
 PLACE = re.compile(r"<!-- ([a-z.\s]+?) -->")
-MODULE = re.compile(r'<script type="text/plain" id="module">\n?([A-Za-z0-9+/=\n]*)</script>')
+MODULE = re.compile(r'<script type="text/plain" id="module">\n?([^<]*)</script>')
 
 
 def read(*path):
@@ -79,12 +80,10 @@ def parts(example, listing=None):
 
 def changed(change, both):
     """Listing and schedule, with each pattern replaced."""
-    if isinstance(change, str):
-        return parts(change)
-    listing, schedule = both
+    listing, schedule = parts(change["example"]) if "example" in change else both
     both = read("examples", change["listing"]) if "listing" in change else listing, schedule + change.get("add", "")
     for pattern, text in change.items():
-        if pattern in ("listing", "add"):
+        if pattern in ("example", "listing", "add"):
             continue
         flags = re.MULTILINE | (re.DOTALL if pattern.startswith("(?s)") else 0)
         both = tuple(re.sub(pattern.removeprefix("(?s)"), text, one, flags=flags) for one in both)
@@ -113,12 +112,29 @@ def told_with(both, lines):
     return listing, told
 
 
+def runs_of(idea):
+    """Listing and schedule of an idea, and those of its change. What the idea edits are steps that nothing comes of."""
+    both = told_with(changed(idea.get("edit", {}), parts(idea["example"], idea.get("listing"))), idea.get("lines"))
+    return both, changed(idea["change"], both)
+
+
+def story_of(section):
+    """A lesson's story as the page tells it: without what a test compares with the run."""
+    def without_claims(part):
+        if isinstance(part, list):
+            return [without_claims(one) for one in part]
+        if isinstance(part, dict):
+            return {name: without_claims(one) for name, one in part.items() if name not in ("claims", "means")}
+        return part
+    return without_claims(json.loads(source("stories.json")).get(str(section)))
+
+
 def an_idea(idea, told):
-    both = told_with(parts(idea["example"], idea.get("listing")), idea.get("lines"))
-    other = changed(idea["change"], both)
+    both, other = runs_of(idea)
     if other == both:
         sys.exit(f"idea {idea['section']} changes nothing")
-    return {**told, "listing": both[0], "schedule": both[1], "shows": idea["shows"], "start": idea.get("start", 0),
+    return {**told, "story": story_of(idea["section"]), "listing": both[0], "schedule": both[1], "shows": idea["shows"],
+            "start": idea.get("start", 0),
             "change": {"text": told["change"], "listing": other[0], "schedule": other[1], "shows": idea["changed"]}}
 
 
@@ -142,9 +158,55 @@ def choices():
     }
 
 
+def shapes_of(example):
+    """The shapes of a picture of the documents, without its style, which the page has once; none without a picture."""
+    name = ("docs", "pictures", f"{example}.svg")
+    if not os.path.exists(os.path.join(TOP, *name)):
+        return ""
+    text = re.sub(r"(?s)<style>.*?</style>|<metadata>.*?</metadata>|<title>.*?</title>|\n", "", read(*name))
+    text = re.sub(r' xmlns="[^"]*"', "", re.sub(r"></(path|rect|circle|stop)>", "/>", text))
+    same = re.compile(r'<path class="(read|tick|pass|fail)" d="([^"]*)"/><path class="\1" d="([^"]*)"/>')
+    while same.search(text):
+        text = same.sub(r'<path class="\1" d="\2\3"/>', text)
+    return f"<figure>{text}</figure>"
+
+
+def style_of_shapes():
+    """The style of the pictures of the documents, within the lessons that stand in a page without a script."""
+    style = re.search(r"(?s)<style>(.*?)</style>", read("docs", "pictures", "borrowed-view.svg"))[1]
+    rules = re.findall(r"(?m)^(?!@)([^{}\n]+)(\{[^{}]*\})$", style)
+    names = (",".join(f".still {one}" for one in selectors.split(",")) for selectors, _ in rules)
+    return "\n".join(name + body for name, (_, body) in zip(names, rules))
+
+
+def told_scene(scene):
+    options = "".join(f"<li>{inline(one)}</li>" for one in scene.get("options", []))
+    asked = f"<p><b>{inline(scene['ask'])}</b></p><ol>{options}</ol>" if "ask" in scene else ""
+    return f"<li>{asked}<h3>{inline(scene['title'])}</h3>{told_of(scene.get('body', ''))}</li>"
+
+
+def still_lessons():
+    """All lessons in words, each with the picture of its run, for a browser that runs no script or no module."""
+    told, found = sections(), []
+    for idea in json.loads(source("gallery.json"))["ideas"]:
+        story, section = story_of(idea["section"]), told[idea["section"]]
+        if not story:
+            continue
+        scenes = [story["start"], *story["scenes"], *story.get("change", {}).get("scenes", [])]
+        words = "".join(told_scene(scene) for scene in scenes + [story["compare"]] * ("compare" in story))
+        title, shapes = inline(section["title"]), shapes_of(idea["example"])
+        found.append(f"<section><h2>{title}</h2>{shapes}<ol>{words}</ol></section>")
+    return "\n".join(found)
+
+
 def script(names):
-    """Modules as one script: without their imports, and without the word 'export'."""
+    """Modules as one script: without their imports, the word 'export', and comments on lines of their own."""
     text = "\n".join(source(name) for name in names.split())
+    text = re.sub(r"(?m)^ *//.*\n", "", text)
+    declared = re.findall(r"(?m)^(?:export )?(?:async )?(?:function|class|const|let) (\w+)", text)
+    twice = sorted({name for name in declared if declared.count(name) > 1})
+    if twice:
+        sys.exit(f"declared in two modules of one script: {', '.join(twice)}")
     text = re.sub(r"(?ms)^import [^;]*? from '\./[a-z]+\.js';\n", "", text)
     return re.sub(r"(?m)^export ", "", text)
 
@@ -169,17 +231,21 @@ def data():
         groups.append([name, list(range(count, count + len(group)))])
         count += len(group)
     told.update(groups=groups, first=dict(groups)["Gallery"][0])
-    return json.dumps(told, ensure_ascii=False, sort_keys=True, separators=(",", ":")).replace("<", "\\u003c")
+    return json.dumps(told, ensure_ascii=False, sort_keys=True, separators=(",", ":"))
 
 
 def built(module):
-    """The page's text, with a module in letters."""
+    """The page's text, with a packed module."""
     def put(match):
         names = match.group(1)
         if names == "module":
-            return "\n".join(module[k:k + 120] for k in range(0, len(module), 120))
+            return module
         if names == "data":
-            return data()
+            return letters_of(data().encode(), "data")
+        if names == "still lessons":
+            return still_lessons()
+        if names == "style of shapes":
+            return style_of_shapes()
         if names in ("script hash", "style hash"):
             return hash_of(PLACE.sub(put, page_script() if names == "script hash" else page_style()))
         if names.endswith(".txt"):
@@ -188,9 +254,31 @@ def built(module):
     return PLACE.sub(put, source("page.html")) + "\n"
 
 
-def module_inside():
-    found = MODULE.search(read("page", "snaplab.html"))
-    return found.group(1).replace("\n", "")
+def letters_inside():
+    """The module that is inside the page, packed."""
+    return MODULE.search(read("page", "snaplab.html"))[1]
+
+
+def packed(content):
+    """Bytes deflated, in letters that a script's element may have."""
+    packer = zlib.compressobj(9, zlib.DEFLATED, -15, 9)
+    letters = base64.b85encode(packer.compress(content) + packer.flush()).decode().replace("<", ",")
+    return "\n".join(letters[k:k + 120] for k in range(0, len(letters), 120))
+
+
+def unpacked(letters):
+    return zlib.decompress(base64.b85decode("".join(letters.split()).replace(",", "<")), -15)
+
+
+def letters_of(content, name):
+    """Bytes packed: in the letters inside the page where these are of them, since another zlib may have others."""
+    inside = re.search(rf'id="{name}">\n?([^<]*)</script>', read("page", "snaplab.html"))
+    try:
+        if inside and unpacked(inside[1]) == content:
+            return inside[1]
+    except (ValueError, zlib.error):
+        pass
+    return packed(content)
 
 
 def main():
@@ -200,9 +288,9 @@ def main():
     asked = words.parse_args()
     if asked.module:
         with open(asked.module, "rb") as file:
-            module = base64.b64encode(file.read()).decode()
+            module = letters_of(file.read(), "module")
     else:
-        module = module_inside()
+        module = letters_inside()
     text = built(module)
     if asked.check:
         same = text == read("page", "snaplab.html")
@@ -210,7 +298,7 @@ def main():
         sys.exit(0 if same else 1)
     with open(PAGE, "w", encoding="utf-8", newline="") as file:
         file.write(text)
-    print(f"page/snaplab.html: {len(text.encode())} bytes, {len(base64.b64decode(module))} of them the module")
+    print(f"page/snaplab.html: {len(text.encode())} bytes, {len(module)} of them the module")
 
 
 if __name__ == "__main__":

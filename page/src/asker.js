@@ -1,8 +1,8 @@
 // The page's side of a worker: one question at a time, and of several of one kind the newest alone. There are three:
 // one for what is shown, one aside for pictures and for what a step would do, so that a step never waits for these, and
 // one for hunts, which is started with the first.
-import {MEMORY, OUTPUT, STOPPED, TRAPPED} from './text.js';
-import {$, say} from './elements.js';
+import {MEMORY, STOPPED, TRAPPED} from './text.js';
+import {$, make, say} from './elements.js';
 
 const SLOW = 100;
 const DOING = {start: 'starting', audit: 'auditing', judge: 'judging', draw: 'drawing', compare: 'comparing',
@@ -92,15 +92,22 @@ export class Asker {
 export const asker = new Asker('shown'), aside = new Asker('aside'), hunter = new Asker('hunter');
 export const stopAsking = () => [asker, aside, hunter].forEach(one => one.stop());
 
+// What the page tells without a script, it tells without its module, too.
+function showStill() {
+    const box = make('div', {innerHTML: $('still')?.textContent ?? ''});
+    $('still')?.replaceWith(...box.childNodes);
+}
+
 // Without the module nothing works, and nothing looks as if it did.
-function tellFailure(text) {
+export function tellFailure(text) {
     failure.text = text || 'no reason is told';
     $('broken-why').textContent = `(${failure.text})`;
     $('broken').hidden = false;
     const controls = 'header button, section button, main button, footer button, input, select, textarea';
     for (const control of document.querySelectorAll(controls)) Object.assign(control, {disabled: true});
-    for (const part of document.querySelectorAll('main, footer, header, #hello')) Object.assign(part, {inert: true});
+    for (const part of document.querySelectorAll('main, footer, header, #stage')) Object.assign(part, {inert: true});
     document.body.classList.add('dead');
+    showStill();
     say('');
 }
 
@@ -118,5 +125,3 @@ export function readRefusal({code, text, why = ''}) {
     const part = where ?? {L: 'listing', P: 'listing', S: 'schedule', W: 'schedule'}[name?.[0]] ?? 'page';
     return {part, text: text.trim(), name, why, line: Number(line)};
 }
-
-export const isOutput = answer => answer?.code === OUTPUT;

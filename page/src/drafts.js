@@ -2,6 +2,7 @@
 import {state, titleOf, ideaOf, change, work} from './state.js';
 import {data, say} from './elements.js';
 
+const NAMES_SCREEN = /^#lesson=\d+(?!.*item=)/;      // an address of a lesson, which leads to no work
 const DRAFT = 'snaplab.draft', KEPT_AFTER = 250, MOST_KEPT = 1000000;
 const draft = {timer: 0, kept: true, touched: false, quiet: true};
 
@@ -45,7 +46,7 @@ export function readDraft() {
     try {
         const found = JSON.parse(kept(DRAFT) ?? 'null');
         const fits = found && typeof found.listing === 'string' && typeof found.schedule === 'string';
-        if (!fits || location.hash && found.hash !== location.hash) return null;
+        if (!fits || NAMES_SCREEN.test(location.hash) || location.hash && found.hash !== location.hash) return null;
         const marks = Array.isArray(found.marks) ? found.marks.filter(mark => typeof mark === 'string') : [];
         const at = Number.isInteger(found.at) ? found.at : 0, goal = readGoal(found.goal);
         return {listing: found.listing, schedule: found.schedule, at, marks, goal, idea: ideaOf(found.idea)};

@@ -24,6 +24,9 @@ export class Editor {
         this.starts = [0];
         this.text = this.letter = null;
         this.onmark = null;
+        this.tell = (/** @type {number} */ _line) => '';
+        this.colour = text => [text];
+        this.coloured = new WeakMap();
         this.area.oninput = () => onInput(this.area.value);
         root.append(this.gutter, make('div', {className: 'code'}, this.back, this.area));
         this.gutter.onclick = event => {
@@ -33,6 +36,10 @@ export class Editor {
             this.onmark?.(this.active + this.first);
         };
         this.gutter.onkeydown = event => this.pressed(event);
+        this.area.onmousemove = ({clientY}) => {
+            const told = this.tell(this.first + this.lineAt(clientY));
+            if (this.area.title !== told) this.area.title = told;
+        };
         new ResizeObserver(() => this.fit()).observe(this.back);
     }
 
@@ -64,8 +71,9 @@ export class Editor {
         this.setRows(lines);
         this.part.forEach((text, k) => {
             const row = this.back.children[k];
-            if (row.firstChild?.data === text) return;
-            row.textContent = text;
+            if (this.coloured.get(row) === text) return;
+            this.coloured.set(row, text);
+            row.replaceChildren(...this.colour(text));
             this.measure(k);
         });
     }
@@ -95,6 +103,14 @@ export class Editor {
         this.columns = Math.floor((this.back.clientWidth - 13) / wide);
         this.part.forEach((_, k) => this.measure(k));
         this.reveal(...this.seen);
+    }
+
+    // The line at a height of the window; -1 where there is none.
+    lineAt(y) {
+        return [...this.gutter.children].findIndex(row => {
+            const {top, bottom} = row.getBoundingClientRect();
+            return top <= y && y < bottom;
+        });
     }
 
     // What stands in the margin, for each text line its children, their key and what is read out; and coloured lines.
@@ -134,5 +150,4 @@ export class Editor {
     }
 }
 
-export const isTyping = () => ['TEXTAREA', 'INPUT'].includes(document.activeElement?.tagName);
 export const timelineFocus = () => $('timeline').focus({preventScroll: true});

@@ -6,12 +6,14 @@ const NOTE_STAYS = 12000;                   // a note goes at the next click or 
 
 /** @param {string} id @returns {any} */
 export const $ = id => document.getElementById(id);
-export const data = JSON.parse($('data').textContent);
+// What the menu leads to: it is read when the page begins.
+/** @type {any} */
+export const data = {choices: [], groups: [], first: 0};
 export const within = (number, least, most) => Math.min(Math.max(number, least), most);
 const note = {timer: 0};
 
 export function say(text) {
-    $('note').textContent = text;
+    $('note').textContent = $('stage-note').textContent = text;
     clearTimeout(note.timer);
     if (text) note.timer = setTimeout(say, NOTE_STAYS, '');
 }

@@ -5,6 +5,8 @@ import {aside, asker, readRefusal} from './asker.js';
 import {readGoal} from './drafts.js';
 import {change, ideaOf, markCommands, marksOf, state, titleOf} from './state.js';
 import {choose} from './lessons.js';
+import {openStory, setMode} from './stage.js';
+import {ideaOfNumber, isStory} from './story.js';
 import {line} from './timeline.js';
 
 const MOST_LINK = 60000, MOST_INPUT = 16777216, MOST_UNPACKED = 2 * MOST_INPUT;
@@ -91,21 +93,32 @@ export async function asHash() {
     return '#' + btoa(letters).replace(/\+/g, '-').replace(/\//g, '_').replace(/=+$/, '');
 }
 
-// An address in words names a lesson and an item: '#lesson=3&item=24', and with '&change' the lesson's change.
+const wholeNumber = text => /^\d{1,7}$/.test(text ?? '') ? Number(text) : 0;
+
+// An address in words names a lesson and one of its screens, '#lesson=3&screen=11'; with '&view=picture' there is the
+// picture alone. One that names an item leads to the workbench: '#lesson=3&item=24', and with '&change' the change.
 async function takeWords(words) {
-    const k = ideaOf([...$('lessons-list').querySelectorAll('button')].map(one => one.textContent)
-        .find(title => title.startsWith(`${words.get('lesson')}. `)));
-    if (k === null) return say(`There is no lesson ${words.get('lesson')}.`);
+    const k = ideaOfNumber(words.get('lesson'));
+    if (k === null) {
+        say(`There is no lesson ${words.get('lesson')}.`);
+        return false;
+    }
+    document.body.classList.toggle('picture-only', words.get('view') === 'picture');
     await choose(k);
+    if (!words.has('item') && isStory(k)) {
+        await openStory(k, Math.max(wholeNumber(words.get('screen')) - 1, 0));
+        return true;
+    }
+    setMode(false);
     if (words.has('change')) await $('change').onclick();
-    state.at = Number(words.get('item')) || 0;
-    return change({at: state.at});
+    await change({at: within(wholeNumber(words.get('item')), 0, state.items?.total ?? 0)});
+    return true;
 }
 
 export async function takeHash() {
     const letters = location.hash.slice(1);
     if (!letters) return false;
-    if (/^lesson=\d/.test(letters)) return takeWords(new URLSearchParams(letters)).then(() => true);
+    if (/^lesson=\d/.test(letters)) return takeWords(new URLSearchParams(letters));
     try {
         const bytes = atob(letters.replace(/-/g, '+').replace(/_/g, '/'));
         const packed = Uint8Array.from(bytes, letter => letter.charCodeAt(0));
@@ -124,15 +137,19 @@ export async function copyLink() {
     const hash = await asHash();
     if (hash.length > MOST_LINK) return say('This is too long for a link: save it as a file.');
     history.replaceState(null, '', hash);
-    return copyText(location.href, 'a link that has all of this');
+    return copyText(location.href, `a link that has all of this${ofThisMachine()}`);
 }
+
+// A page that was opened as a file has an address that leads nowhere else.
+const ofThisMachine = () => location.protocol === 'file:' ?
+    '; it leads to a file of this machine, so send the page along' : '';
 
 export async function copyFrame() {
     const hash = await asHash();
     if (hash.length > MOST_LINK) return say('This is too long for a frame: save it as a file.');
     const address = location.href.replace(/#.*/, '') + hash;
     return copyText(`<iframe src="${address}" width="1000" height="640" title="snaplab"></iframe>`,
-        'a frame for a page of yours, which opens at this position');
+        `a frame for a page of yours, which opens at this position${ofThisMachine()}`);
 }
 
 // The items that the time line shows, or of many those around the position, as a picture.

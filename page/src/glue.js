@@ -12,6 +12,12 @@ export class Glue {
         this.room = this.roomLength = 0n;
     }
 
+    // Whether the module has a function of this name.
+    has(name) {
+        if (!this.instance) this.start();
+        return name in this.instance;
+    }
+
     // The address of a copy of these bytes; 0 where there is no memory.
     put(bytes) {
         const at = this.instance.page_room(BigInt(Math.max(bytes.length, 1)));

@@ -10,6 +10,7 @@ const NOTE = /^# run (\d+) of seed (\d+): (.*)$/m;
 
 export async function hunt() {
     const {listing, report, refusal} = state;
+    if (state.goal?.listing) return say('The exercise asks for a schedule of yours.');
     if (refusal?.name || !report) return say('Mend what is refused first.');
     if (!hunter.idle) return hunter.stop();
     const words = report.values.split(' ').length, processes = report.processes.length;

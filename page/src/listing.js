@@ -2,13 +2,48 @@
 import {lineOf} from './text.js';
 import {$, badge, data, fill, make, say} from './elements.js';
 import {Editor, SHOWN_LINES} from './editor.js';
-import {change, state, toggle} from './state.js';
+import {anatomyNow, askAnatomy, change, state, toggle} from './state.js';
+import {glossOf, sentenceOf} from './steps.js';
 
+const OF_INPUT = /^line \d+ of the input, (?=line \d+ of the (?:listing|schedule))/gm;     // the page shows its parts
 const MOST_BADGES = 3, MOST_COMPARED = 2000;
 export const listingEditor = new Editor($('listing'), 'Listing', listing => change({listing}, {typed: 'listing'}));
 export const scheduleEditor = new Editor($('schedule'), 'Schedule',
     schedule => change({schedule}, {typed: 'schedule'}));
 listingEditor.onmark = toggleBreak;
+listingEditor.tell = explained;
+listingEditor.colour = coloured;
+
+// A line in colours: its number, words of instructions, jumps, registers and comment.
+const WORDS_OF_LINE = 'kind|scalar|row|words|view|scan|update|each|let|get|put|next|if|all|first|look|bit|where|not';
+const PARTS_OF_LINE = new RegExp([/(#.*)/, /(^\s*\d+(?=\s*:))/, /\b(goto \d+|call \d+|return|finish)\b/,
+    /\b([rqpv])(?=\[)/].map(({source}) => source).join('|') + `|\\b(${WORDS_OF_LINE})\\b`, 'g');
+const COLOURS = [undefined, 'comment', 'number', 'jump', 'register', 'word'];
+
+scheduleEditor.colour = text => {
+    const comment = text.indexOf('#');
+    return comment < 0 ? [text] : [text.slice(0, comment), make('span', {className: 'comment'}, text.slice(comment))];
+};
+
+function coloured(text) {
+    const found = [];
+    let end = 0;
+    for (const part of text.matchAll(PARTS_OF_LINE)) {
+        const className = COLOURS[part.findIndex((group, k) => k && group !== undefined)];
+        found.push(text.slice(end, part.index), make('span', {className}, part[0]));
+        end = part.index + part[0].length;
+    }
+    return [...found, text.slice(end)].filter(one => one !== '');
+}
+
+// What a line of the listing is for, and of the one that ran what the item did.
+function explained(place) {
+    const line = [...state.lines.values()].find(one => one.place === place), [executed] = linesOfLast();
+    if (!line) return '';
+    const run = place === executed ? anatomyNow() : null, gloss = glossOf(line.text);
+    if (place === executed && !run) askAnatomy();
+    return `${run ? `Item ${state.at}: ${sentenceOf(run, state.at, state.lines)} ` : ''}Line ${line.number} ${gloss}.`;
+}
 
 export function showTexts() {
     listingEditor.show(state.listing);
@@ -118,7 +153,7 @@ function badLine(part) {
 function showRefusal(part) {
     const box = $(`${part}-refusal`), refusal = state.refusal?.part === part ? state.refusal : null;
     box.hidden = !refusal;
-    const {text = '', why = ''} = refusal ?? {};
+    const {text = '', why: told = ''} = refusal ?? {}, why = told.replace(OF_INPUT, '');
     fill(box, [text, why], () => [make('b', {}, text), make('code', {className: 'why'}, why.trimEnd())]);
     if (state.refusal?.part === 'page') say(state.refusal.text);
 }

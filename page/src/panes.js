@@ -5,8 +5,7 @@ import {goTo, state} from './state.js';
 import {fitTimeline} from './timeline.js';
 
 const PANES = 'snaplab.panes', EDGE_STEP = 4, LEAST = 15, MOST = 70, SLOWEST = 16;
-const EDGES = {'edge-left': ['--left', 29], 'edge-right': ['--right', 30], 'edge-middle': ['--upper', 50],
-    'edge-lesson': ['--lesson', 53]};
+const EDGES = {'edge-left': ['--left', 29], 'edge-right': ['--right', 30], 'edge-middle': ['--upper', 50]};
 const sizes = {};
 
 function setEdge(name, share) {

@@ -1,13 +1,11 @@
 // What the page stands on: the two texts, the position, the marks, and the lesson with its goal; these are kept, undone
 // and linked together. All else is what the module printed for them.
-import {MOST_ITEMS, OUTPUT, STEP, STOPPED, ended, lineOf, readItems, readLines, readOperations, readVerdicts,
+import {MOST_ITEMS, OUTPUT, STEP, STOPPED, ended, lendingMoves, lineOf, readItems, readLines, readOperations,
+    readVerdicts,
     same} from './text.js';
 import {data, say, within} from './elements.js';
 import {asker, aside, readRefusal} from './asker.js';
-import {keepDraft} from './drafts.js';
-import {showIdea} from './lessons.js';
-import {showTexts} from './listing.js';
-import {showState} from './main.js';
+import {prepared} from './run.js';
 
 const BIG = 300000, QUIET = 120, MOST_DRAWN = 20000;
 const MOST_NAMES = 300, MOST_UNDONE = 500, MOST_UNDONE_LETTERS = 3e7, PAUSE = 1500;
@@ -17,9 +15,12 @@ export const state = {
     lines: new Map(), items: readItems(''), report: null, before: null, since: null, last: 'none',
     operations: readOperations(''), verdicts: NO_VERDICTS, refusal: null,
     shapes: null, oldShapes: null, serial: 0, timer: 0, past: [], future: [], typed: null, typedAt: 0, audited: null,
-    appended: false, judged: null, run: {}, shownRun: null, thread: {}, why: null,
+    appended: false, judged: null, run: {}, shownRun: null, thread: {}, why: null, anatomy: null,
 };
 asker.items = () => state.items?.total ?? 0;
+
+// What follows a change; main.js says what, so that the state knows none of those who show or keep it.
+export const follow = {texts: () => {}, shown: () => {}, kept: () => {}};
 
 // What is undone, kept and linked.
 export function work() {
@@ -49,8 +50,8 @@ export function change(to, {appended = false, kept = false, undone = false, type
             Object.assign(state, {shapes: null, oldShapes: state.shapes ?? state.oldShapes, verdicts: NO_VERDICTS,
                 audited: null, judged: null, thread: {}});
     }
-    if (!appended) [showTexts, showIdea].forEach(show => show());
-    keepDraft();
+    if (!appended) follow.texts();
+    follow.kept();
     return refresh();
 }
 
@@ -122,7 +123,7 @@ export async function refresh(go = '') {
     if (answer.items?.from && schedule === state.schedule) state.items = answer.items;
     if (answer.code === OUTPUT) take(answer, serial === state.serial, run, known, schedule);
     else if (serial === state.serial) state.refusal = readRefusal(answer);
-    showState();
+    follow.shown();
     askAudit();
 }
 
@@ -140,6 +141,7 @@ function take({report, last, operations, refused, before, drawn}, newest, run, k
     else if (state.shownRun !== run) state.since = null;
     Object.assign(state, {report, last, before: report.at ? known ?? before : null, refusal: null, shownRun: run,
         operations: operations ?? state.operations});
+    if (!report.total) state.oldShapes = null;     // a run of no items has no bars, and none of an older run
     if (drawn && run === state.run) state.shapes = {...drawn, from: 0, to: report.total, schedule};
     if (newest) state.at = report.at;
     for (const [command, refusal] of refused) dropMark(command, refusal);
@@ -170,7 +172,7 @@ function askAudit() {
         if (thread !== state.thread) return;
         if (answer?.code === OUTPUT)
             Object.assign(state, {verdicts: answer.verdicts, audited: {listing, schedule, answers}, appended: true});
-        showState();
+        follow.shown();
     }, QUIET);
 }
 
@@ -187,7 +189,7 @@ async function askJudgement() {
     if (!answer || state.judged !== asked) return;
     const why = () => answer.code === STOPPED ? 'stopped.' : readRefusal(answer).text;
     state.judged = {...asked, ...answer.code === OUTPUT ? answer.judgement : {failed: why()}};
-    showState();
+    follow.shown();
 }
 
 const isSeen = ({from, to}) => from < Math.max(state.at, 1) && to >= Math.min(state.at, state.report?.total ?? 0);
@@ -203,10 +205,23 @@ async function askShapes() {
     state.shapes = {...answer.shapes, from, to, schedule};
 }
 
+// The anatomy of the run, where it is known; of a long run nobody asks for it.
+export const anatomyNow = () => state.anatomy?.listing === state.listing && state.anatomy.schedule === state.schedule ?
+    state.anatomy : null;
+
+export async function askAnatomy() {
+    const {listing, schedule, report, refusal} = state;
+    if (refusal || !report || report.total > MOST_DRAWN / 2) return;
+    const answer = await aside.ask('anatomy', {listing, schedule, wantsOrder: false});
+    if (answer?.code !== OUTPUT || listing !== state.listing || schedule !== state.schedule) return;
+    state.anatomy = {...prepared(answer.anatomy, null), listing, schedule, need: lendingMoves(listing)};
+    follow.shown();
+}
+
 export function goTo(at) {
     state.at = within(at, 0, state.items?.total ?? MOST_ITEMS);
     state.typed = null;
-    keepDraft();
+    follow.kept();
     return refresh();
 }
 

@@ -2,12 +2,29 @@
 
 // The module's codes, and two of the page's own: after a trap, and where the user has stopped a run.
 export const OUTPUT = 0, REFUSED = 1, MEMORY = 2, SMALL = 3, UNSAID = 5, TRAPPED = 6, STOPPED = 7;
-export const KINDS = [undefined, 'scan', 'update', 'crash'], STEP = 0, CRASH = 3, MOST_ITEMS = 1000000, MOST_TOLD = 999;
+export const KINDS = [undefined, 'scan', 'update', 'crash'], STEP = 0, MOST_ITEMS = 1000000, MOST_TOLD = 999;
 const ITEM = /^[ \t\r]*(\d+)[ \t\r]*(?:\*[ \t\r]*(\d+)|(scan|crash|update)\b[^#]*)?[ \t\r]*(?:#.*)?$/;
 const SHAPE = /^[ \t\r]*shape[ \t\r]+(\d+)[ \t\r]+(\d+)/;
 const EMPTY = /^[ \t\r]*(?:#.*)?$/;
 const EVENT = /^event (\d+) (\d+) (scan|update|answer|done|crash)/gm;
 const COMMENT = /#\s*(.*?)\s*$/;
+
+// What stands in the page deflated, in letters of 85 kinds, five of which are four bytes: its bytes.
+const LETTERS = '0123456789ABCDEFGHIJKLMNOPQRSTUVWXYZabcdefghijklmnopqrstuvwxyz!#$%&()*+-;,=>?@^_`{|}~';
+
+export async function unpacked(text) {
+    const letters = text.replace(/\s/g, ''), count = letters.length, bytes = new Uint8Array(Math.ceil(count / 5) * 4);
+    const view = new DataView(bytes.buffer), codes = new Uint8Array(128), last = LETTERS.length - 1;
+    [...LETTERS].forEach((letter, code) => { codes[letter.charCodeAt(0)] = code; });
+    for (let k = 0, at = 0; k < count; k += 5, at += 4) {
+        let word = 0;
+        for (let j = k; j < k + 5; j++) word = word * LETTERS.length +
+            (j < count ? codes[letters.charCodeAt(j)] : last);
+        view.setUint32(at, word);
+    }
+    const packed = new Blob([bytes.subarray(0, Math.floor(count * 4 / 5))]).stream();
+    return new Response(packed.pipeThrough(new DecompressionStream('deflate-raw'))).arrayBuffer();
+}
 
 // Whether two keys, numbers, texts or lists of these, are alike, part by part.
 export function same(one, other) {
@@ -159,6 +176,10 @@ export function readLines(listing) {
     });
     return found;
 }
+
+// How many moves lend a view, by the line that looks for one who has made them; 0 where a listing has no such line.
+export const lendingMoves = listing =>
+    Number(/^[ \t\r]*\d+[ \t\r]*:[ \t\r]*first \w+ n: \w+\[@\] = (\d+)/m.exec(listing)?.[1] ?? 0);
 
 // The items of a trace: the words of each, what it did in one text, and what it changed, old beside new. The text of
 // the line that was executed is none of what it did.

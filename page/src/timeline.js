@@ -2,7 +2,7 @@
 // A shape's items, process and words are the module's; what comes after the position is pale, and its ends are untold.
 import {$, within} from './elements.js';
 import {goTo, state} from './state.js';
-import {unexplained} from './lessons.js';
+import {unexplained} from './judged.js';
 
 const LABEL = 46, RIGHT = 12, GRAIN = 1.5, VALUES = 18, POINTS = 8, LANES = VALUES + POINTS, AXIS = 16;
 const LEAST_WORDS = 22;
@@ -53,12 +53,12 @@ function highOf(n) {
 // What is drawn of the run; where the texts are refused what was drawn of the run before, which is dim.
 const drawnShapes = () => state.shapes ?? (state.refusal ? state.oldShapes : null);
 
-// How much of the picture is past: more of it is told where another end, write, loan, trap or crash is.
+// How much of the picture is past: more of it is told where another end, write, test, loan, trap or crash is.
 function pastOf(at) {
     const shapes = drawnShapes();
     let count = 0;
     for (const {to} of shapes?.bar ?? []) if (to <= at) count++;
-    for (const kind of ['write', 'loan', 'trap', 'crash'])
+    for (const kind of ['write', 'test', 'loan', 'trap', 'crash'])
         for (const {item} of shapes?.[kind] ?? []) if (item <= at) count++;
     return count;
 }

@@ -1,7 +1,8 @@
 // The worker: asks the module, and reads its answers, so that the page is never held up.
 import {OUTPUT, REFUSED, TRAPPED, ended, inputOf, leastPlace, readHead, readItems, readJudgement, readOperations,
-    readSession, readShapes, readTrace, readVerdicts, verdictAt, viewAt} from './text.js';
+    readSession, readShapes, readTrace, readVerdicts, unpacked, verdictAt, viewAt} from './text.js';
 import {Glue} from './glue.js';
+import {anatomyOf, orderOf} from './anatomy.js';
 
 const NEAR = 60;        // so many scans, the last ones, are told of in words, and as many without a point
 const MOST_MARKS = 64;  // of one session; more of them are asked for in several
@@ -111,6 +112,35 @@ function writer({listing, schedule, at, name}) {
     return answer.code === OUTPUT ? {code: OUTPUT, item: readSession(answer.text).report.at} : answer;
 }
 
+// A record that a function of the module hands over; its answer, where that is no record.
+function recordOf(name, texts) {
+    const answer = asText(glue.answer(name, texts));
+    return answer.code === OUTPUT ? {code: OUTPUT, record: JSON.parse(answer.text)} : answer;
+}
+
+// The anatomy of a run as a module tells it that has no function for it.
+function anatomyInLines(listing, schedule) {
+    const traced = askOf('trace', listing, schedule);
+    if (traced.code !== OUTPUT) return traced;
+    const report = reportAt(listing, schedule, 0), [, kind] = /^[ \t\r]*kind[ \t\r]+(\w+)/m.exec(listing);
+    const drawn = shapes({listing, schedule, from: 1, to: Math.max(report.total, 1)}).shapes ?? readShapes('');
+    return {code: OUTPUT, record: anatomyOf({report, trace: traced.text, shapes: drawn, kind})};
+}
+
+function orderInLines(listing, schedule) {
+    const judged = askOf('judge', listing, schedule);
+    return judged.code === OUTPUT ? {code: OUTPUT, record: orderOf(judged.text)} : judged;
+}
+
+// The anatomy of a run, and where it is wanted the order of its operations.
+function anatomy({listing, schedule, wantsOrder}) {
+    const texts = [listing, schedule], has = name => glue.has(name);
+    const found = has('page_anatomy') ? recordOf('page_anatomy', texts) : anatomyInLines(listing, schedule);
+    if (found.code !== OUTPUT || !wantsOrder) return {...found, anatomy: found.record};
+    const order = has('page_order') ? recordOf('page_order', texts) : orderInLines(listing, schedule);
+    return {code: OUTPUT, anatomy: found.record, order: order.record ?? null};
+}
+
 // Why an item came out so; of a process the item at which it trapped, the first one up to this one that leaves it so.
 function why({listing, schedule, item, who}) {
     const traps = at => reportAt(listing, schedule, at)?.processes[who - 1]?.what.startsWith('trapped');
@@ -191,15 +221,15 @@ function hunt({listing, processes, words}) {
 // What an input of 'snaplab debug' leads to, whatever it is.
 const tryInput = ({text}) => asText(glue.answer('page_output', ['debug', '', ended(text)]));
 
+// The module stands in the page deflated, in letters.
 async function start(letters) {
     if (typeof WebAssembly === 'undefined') throw new Error('it has no WebAssembly');
-    const text = atob(letters), bytes = new Uint8Array(text.length);
-    for (let k = 0; k < text.length; k++) bytes[k] = text.charCodeAt(k);
-    glue = new Glue(await WebAssembly.compile(bytes));
+    if (typeof DecompressionStream === 'undefined') throw new Error('it has no DecompressionStream');
+    glue = new Glue(await WebAssembly.compile(await unpacked(letters)));
     return {code: OUTPUT};
 }
 
-const TASKS = {start, look, audit, judge, draw, shapes, peek, reach, writer, why, compare, hunt, tryInput,
+const TASKS = {start, anatomy, look, audit, judge, draw, shapes, peek, reach, writer, why, compare, hunt, tryInput,
     answer: ({name, texts, numbers}) => glue.answer(name, texts, numbers)};
 
 onmessage = async ({data: {kind, request}}) => {

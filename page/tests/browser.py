@@ -159,11 +159,15 @@ class Steps:
         """A page that is there already is waited for until it knows its width."""
         self.until("window.snaplab === undefined || line.wide === document.getElementById('timeline').clientWidth")
 
-    def open(self, address, wait=True):
+    def open(self, address, wait=True, bench=True):
+        """A page, once it is there; with the workbench, where its address leads to no screen of a lesson."""
         self.run("window.oldPage = true")
         self.go(address or "file://" + PAGE)
         if wait:
             self.until("window.oldPage === undefined && document.readyState === 'complete' && window.snaplab !== undefined")
+            self.settled()
+        if wait and bench and "screen=" not in (address or ""):
+            self.run("snaplab.stage.on && snaplab.toBench()")
             self.settled()
 
     def until(self, script, limit=60):
@@ -233,7 +237,7 @@ class Steps:
 class Tab(Steps):
     """One page of the browser."""
 
-    def __init__(self, browser, width=1280, height=720, dark=False, scale=1, mobile=False, address=None, wait=True):
+    def __init__(self, browser, width=1280, height=720, dark=False, scale=1, mobile=False, address=None, wait=True, bench=True):
         self.browser = browser
         self.target = browser.ask("Target.createTarget", url="about:blank")["targetId"]
         self.session = browser.ask("Target.attachToTarget", targetId=self.target, flatten=True)["sessionId"]
@@ -242,7 +246,7 @@ class Tab(Steps):
         if os.environ.get("SLOWED"):
             self.ask("Emulation.setCPUThrottlingRate", rate=float(os.environ["SLOWED"]))
         self.look(width, height, dark, scale, mobile)
-        self.open(address, wait)
+        self.open(address, wait, bench)
 
     def ask(self, method, limit=60, **params):
         return self.browser.ask(method, self.session, limit, **params)

@@ -10,7 +10,8 @@ sys.dont_write_bytecode = True
 import browser  # noqa: E402
 from browser import TOP, Failed, NotHere
 
-FIRST_IDEA = 3
+FIRST_IDEA = 4      # the place of lesson 1, behind three listings and lesson 0
+RARE = '#open, #save, #copy, #link, #frame, #picture, #make, #present, #words, #trust, #keys'
 
 
 def read(*path):
@@ -41,6 +42,9 @@ class Page:
         return self.run(f"document.querySelector({json.dumps(selector)}).value")
 
     def click(self, selector, nth=0):
+        """A click; buttons that are rarely needed are behind More."""
+        if selector in RARE.split(", ") and not self.shown(selector):
+            self.tab.click("#more")
         self.tab.click(selector, nth)
         self.tab.settled()
 
@@ -96,12 +100,12 @@ def untrue_captions(page):
 
 
 def try_gallery(page, count):
-    data = json.loads(page.run("document.getElementById('data').textContent"))
+    data = json.loads(page.run("JSON.stringify(data)"))
     written = re.split(r"(?m)^## ", "".join(read("docs", "tutorial", name) for name in ("gallery.md", "gallery-2.md")))
     sections = {one.partition(".")[0]: " ".join(re.sub(r"\[([^]]*)\]\([^)]*\)|[`*]", r"\1", one).split()) for one in written}
-    for k, idea in enumerate(one for one in data["choices"] if "change" in one):
-        section = sections[str(k + 1)]
-        page.choose(FIRST_IDEA + k)
+    for place, idea in ((place, one) for place, one in enumerate(data["choices"]) if "change" in one):
+        section, k = sections.get(idea["title"].partition(".")[0], ""), place - FIRST_IDEA
+        page.choose(place)
         told = page.run("[...document.querySelectorAll('#idea-text p')].map(p => p.innerText)")
         open_ends = [one for one in told if one.endswith(":")]
         count.check(f"idea {k + 1}: no paragraph leads to what is not there", not open_ends, open_ends)
@@ -268,7 +272,8 @@ def try_files(page, count, running):
     wanted = parts(read("examples", "borrowed-view", "stdin").partition("\n")[2])    # without the sentence above the listing
     got = parts(text)
     lesson = '# lesson {"idea":"3. A scan that borrows its view","goal":null}\n'
-    count.check("the input of debug", got[:2] == wanted[:2] and got[2] == lesson + "break 1 13\nbreak 2 13\ngoto 30\n", got[2])
+    items = [re.findall(r"(?m)^[^#\n]*[^#\s]", part) for part in (got[1], wanted[1])]      # captions are the lesson's own
+    count.check("the input of debug", got[0] == wanted[0] and items[0] == items[1] and got[2] == lesson + "break 1 13\nbreak 2 13\ngoto 30\n", got[2])
     page.run("window.copied = ''; navigator.clipboard.writeText = async text => { window.copied = text; }")
     page.click("#copy")
     page.tab.until("window.copied !== ''")
@@ -308,8 +313,9 @@ def try_picture(page, count):
         folder = page.tab.downloads(folder)
         page.click("#keep")
         path = saved(page, folder, "snaplab-run.svg")
-        wanted = re.sub("<metadata>#.*\n", "<metadata>", read("docs", "pictures", "borrowed-view.svg"))
-        count.check("it is saved, as bin/snapdraw draws it", os.path.exists(path) and open(path, encoding="utf-8").read() == wanted)
+        wanted, got = (re.sub(r"(?s)<metadata>.*?</metadata>", "", one) for one in (
+            read("docs", "pictures", "borrowed-view.svg"), open(path, encoding="utf-8").read()))
+        count.check("it is saved, as bin/snapdraw draws it", got == wanted)
     page.tab.key("Escape")
     count.check("Escape closes it", not page.shown("#picture-shown"))
     page.write("schedule", "shape 2 2\n1 scan\n1*499\n2 update 2 5\n2*499\n")
@@ -343,7 +349,7 @@ def open_file(page, path):
 
 
 def try_exercise(page, count, running):
-    data = json.loads(page.run("document.getElementById('data').textContent"))
+    data = json.loads(page.run("JSON.stringify(data)"))
     page.choose([bool(one.get("goal")) for one in data["choices"]].index(True))
     count.check("an exercise says that it is not met", "Not met yet" in page.text("#goal"), page.text("#goal"))
     page.write("schedule", "shape 2 2\n1 scan\n1*6\n2 update 2 7\n2*17\n1*50\n")
@@ -546,7 +552,7 @@ def try_readers(page, count):
     page.click("#verdicts .none")
     told = page.text("#where")
     count.check("position, outcome and verdict are told", page.run("document.getElementById('where').getAttribute('aria-live')") == "polite"
-                and "Item 52 of 62" in told and "answered 0 0" in told and "point none" in told, told)
+                and "Item 52 of 52" in told and "answered 0 0" in told and "point none" in told, told)
     nodes = page.tab.ask("Accessibility.getFullAXTree")["nodes"]
     unnamed = [one["role"]["value"] for one in nodes if not one.get("ignored") and one["role"]["value"] in
                ("button", "textbox", "combobox", "slider", "listbox", "link", "option", "separator", "splitter") and not one.get("name", {}).get("value")]
@@ -561,7 +567,7 @@ def try_readers(page, count):
                              "document.activeElement.parentElement?.parentElement?.id || document.activeElement.tagName"))
     wanted = {"menu", "hunt", "undo", "open", "save", "copy", "link", "picture", "make", "keys", "gutter", "word", "value", "step", "scan", "update", "crash",
               "cut", "run", "rrun", "home", "end", "at", "timeline", "play", "next", "previous", "compare", "words", "present", "trust", "frame",
-              "edge-left", "edge-right", "edge-middle", "edge-lesson"}
+              "edge-left", "edge-right", "edge-middle"}
     count.check("the Tab key reaches every control", wanted <= reached, wanted - reached)
     page.leave()
     page.key("?")
@@ -584,7 +590,7 @@ PARTS = ("region", "table", "list", "group", "dialog", "heading", "rowheader", "
 # Where one comes to on the way through the page, in this order.
 WAY = (("button", "Lesson 3. A scan that borrows its view"), ("button", "Undo"), ("region", "Listing"), ("listbox", "Margin: Listing"), ("textbox", "Listing"),
        ("region", "Processes and schedule"), ("group", "Process 1"), ("group", "Process 2"), ("heading", "Schedule"), ("button", "Find a failure"),
-       ("textbox", "Schedule"), ("region", "Memory and verdicts"), ("table", "Registers r"), ("list", "Verdicts"), ("button", "Next caption"),
+       ("textbox", "Schedule"), ("region", "Memory and verdicts"), ("list", "Verdicts"), ("table", "Registers r"), ("button", "Next caption"),
        ("region", "Position"), ("button", "One item on"), ("slider", "Time line: position in the schedule"))
 
 
@@ -659,7 +665,7 @@ def try_alone(page, count):
     page.run("document.querySelector('h1').setAttribute('style', 'word-spacing: 9px')")
     told = page.run("(() => { const s = getComputedStyle(document.querySelector('h1')); return [s.letterSpacing, s.wordSpacing]; })()")
     count.check("nor has another style any effect", "9px" not in told, told)
-    outside = re.findall(r"(?:src|href)=\"?(?!data:)[a-z]+:|url\(|@import|fetch\(|XMLHttpRequest|https?://", text)
+    outside = re.findall(r"(?:src|href)=\"?(?!data:)[a-z]+:|url\((?!#)|@import|fetch\(|XMLHttpRequest|https?://", text)
     count.check("nothing is loaded from elsewhere", not outside, outside[:5])
     page.click("#trust")
     sentences = re.split(r"(?<=\.)\s+", page.run("document.querySelector('#proved p').textContent.trim()"))

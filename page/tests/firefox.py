@@ -168,11 +168,11 @@ class Tab(Steps):
 
     drawn = "new Promise(done => requestAnimationFrame(() => requestAnimationFrame(done)))"
 
-    def __init__(self, browser, width=1280, height=720, dark=False, scale=1, mobile=False, address=None, wait=True):
+    def __init__(self, browser, width=1280, height=720, dark=False, scale=1, mobile=False, address=None, wait=True, bench=True):
         self.browser = browser
         self.context = browser.ask("browsingContext.create", type="tab")["context"]
         self.look(width, height, dark, scale, mobile)
-        self.open(address, wait)
+        self.open(address, wait, bench)
 
     def ask(self, method, **_):
         raise NotHere(f"Chromium alone has {method}")

@@ -16,7 +16,7 @@ SIZES = {
     "zoomed": {"width": 640, "height": 360, "scale": 2},      # the projector at 200 %
     "phone": {"width": 390, "height": 844, "scale": 2, "mobile": True},
 }
-FIRST_IDEA = 3
+FIRST_IDEA = 4
 STATES = {
     "borrowed": [f"choose({FIRST_IDEA + 2})", "goTo(53)", "goTo(54)"],
     "none": [f"choose({FIRST_IDEA + 3})", "document.getElementById('change').onclick()", "goTo(51)", "goTo(52)"],
@@ -46,7 +46,6 @@ def main():
         for size, how in SIZES.items():
             for dark in (False, True):
                 tab = running.tab(dark=dark, **how)
-                tab.run("document.getElementById('hello-close').click()")
                 states = {**STATES, **MORE} if size == "projector" and not dark else STATES
                 for name, steps in states.items():
                     tab.run("[...document.querySelectorAll('dialog[open]')].forEach(one => one.close())")

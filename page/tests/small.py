@@ -112,17 +112,18 @@ def try_keys(page, count):
         shown_in(page, how)
         page.run("document.activeElement.blur()")
         page.run("document.getElementById('menu').focus()")
-        page.tab.key("Tab")
-        first = page.run("document.activeElement.id")
+        found = {"menu"}
+        while "more" not in found and len(found) < 8:
+            page.tab.key("Tab")
+            found.add(page.run("document.activeElement.id"))
         page.tab.key("Enter")
-        found = {"menu", first}
         for _ in range(150):
             page.tab.key("Tab")
             found.add(page.run("document.activeElement.id"))
             if "timeline" in found:     # the last one: from there the key may lead out of the page
                 break
         missing = [one for one in HEADER + CONTROLS if one not in found]
-        count.check(f"{name}: the Tab key leads to all buttons", first == "more" and not missing, [first, missing])
+        count.check(f"{name}: the Tab key leads to all buttons", not missing, missing)
 
 
 def try_names(page, count):
@@ -195,7 +196,6 @@ def main():
     count = browser.Count()
     with browser.started() as running:
         page = Page(running.tab())
-        page.run("document.getElementById('hello-close').click()")
         for trial in (try_edges, try_words, try_note, try_keys, try_names, try_lanes, try_many, try_values, try_lower):
             attempt(trial, count, page)
         attempt(try_deaf, count, page, running)

@@ -9,7 +9,7 @@ _snapspin() {
     fi
     case $before,$word in
         --shipped,*) offered="seq bit multi" ;;
-        *,-*) offered="--shipped --crashes --memory --minutes --depth -h --help -V --version" ;;
+        *,-*) offered="--shipped --crashes --memory --minutes --depth --explain -h --help -V --version" ;;
     esac
     mapfile -t COMPREPLY < <(compgen -W "$offered" -- "$word")
 }

@@ -1,8 +1,8 @@
 //! `advised`: the error of a command line, which names the kind that was meant where `--shipped`
-//! names a listing by its letter.
+//! names a listing by its letter; `mended`: its text, with advice that leads somewhere.
 use clap::error::ErrorKind;
 use clap::{Command, Error};
-use std::alloc::AllocError;
+use std::alloc::{AllocError, Global};
 
 /// Returns the advice on a value of `--shipped` that is the letter of a shipped listing.
 fn advice_on(value: &str) -> Option<&'static str> {
@@ -57,4 +57,42 @@ pub fn advised(
         }
         _ => Ok(error),
     }
+}
+
+/// What is said of a number that is not written in digits.
+const DIGITS: &str = "\n\n  tip: a number is written in digits, as in 1000000";
+
+/// Returns whether a line advises to pass an option as a value, which no program takes.
+fn leads_nowhere(line: &str) -> bool {
+    line.starts_with("  tip: to pass '")
+}
+
+/// Returns the advice behind a line: on a number that is not written in digits.
+fn advice_behind(line: &str) -> &'static str {
+    if line.ends_with(": invalid digit found in string") {
+        DIGITS
+    } else {
+        ""
+    }
+}
+
+/// Returns the text of an error of a command line, without a tip that leads nowhere and the empty
+/// line behind it, and with advice on numbers.
+///
+/// # Errors
+///
+/// `AllocError` where memory runs out.
+pub fn mended(alloc: Global, text: &str) -> Result<String, AllocError> {
+    let mut told = String::new(alloc);
+    let mut was_empty = false;
+    for line in text.lines() {
+        let is_empty = line.is_empty();
+        if !leads_nowhere(line) && !(is_empty && was_empty) {
+            told.push_str(line)?;
+            told.push_str(advice_behind(line))?;
+            told.push_str("\n")?;
+        }
+        was_empty = is_empty || was_empty && leads_nowhere(line);
+    }
+    Ok(told)
 }

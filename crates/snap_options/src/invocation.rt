@@ -4,6 +4,7 @@ ghost use Rattle.std.specs.Prelude.{◌≡◌, false};
 ghost use Rattle.snap_faults.specs.Names.{of_program};
 ghost use Rattle.snap_options.specs.CommandLines.{AnswersUnasked, SaysUnread, explained_if};
 
+use crate::advice::mended;
 use clap::Error;
 use clap::error::ErrorKind;
 use snap_faults::{Names, help, say_no_memory, say_no_text};
@@ -66,7 +67,7 @@ pub fn words_of(rt: &HostRuntime) -> Result<Vec<String>, Unread> {
     }
 }
 
-/// Returns what arguments come to that `clap` ends with this error.
+/// Classifies an error of `clap`: a text that was asked for, wrong arguments, or no memory.
 pub fn unasked_by(alloc: Global, error: &Error) -> Unasked {
     if error.kind() == ErrorKind::OutOfMemory {
         return Unasked::Unread(Unread::NoMemory);
@@ -74,10 +75,12 @@ pub fn unasked_by(alloc: Global, error: &Error) -> Unasked {
     let Ok(text) = format!(in alloc; "{error}") else {
         return Unasked::Unread(Unread::NoMemory);
     };
-    if error.use_stderr() {
-        Unasked::Wrong(text)
-    } else {
-        Unasked::Help(text)
+    if !error.use_stderr() {
+        return Unasked::Help(text);
+    }
+    match mended(alloc, text.as_str()) {
+        Ok(told) => Unasked::Wrong(told),
+        Err(_) => Unasked::Unread(Unread::NoMemory),
     }
 }
 

@@ -18,7 +18,7 @@ use snap_words::{KindTag, MAX_ITEMS};
 use std::alloc::{AllocError, Global};
 
 /// The version of the program.
-const VERSION: &str = "0.1.0";
+const VERSION: &str = "0.2.0";
 
 /// The most turns of a process if no limit is given.
 const USUAL_LIMIT: u64 = 100_000;

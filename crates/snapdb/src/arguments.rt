@@ -11,7 +11,7 @@ use snap_options::{Invocation, advised, flag, is_given, kind_given, shipped};
 use std::alloc::{AllocError, Global};
 
 /// The version of the program.
-const VERSION: &str = "0.1.0";
+const VERSION: &str = "0.2.0";
 
 /// What stands under the options.
 const MORE: &str = "\

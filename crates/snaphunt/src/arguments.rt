@@ -13,7 +13,7 @@ use snap_words::{KindTag, MAX_COUNT, Shape};
 use std::alloc::{AllocError, Global};
 
 /// The version of the program.
-const VERSION: &str = "0.1.0";
+const VERSION: &str = "0.2.0";
 
 /// The paces that `--pace` takes.
 const PACES: &[&str] = &[

@@ -17,15 +17,17 @@ class Chart {
     order = new Map();
     parted = 0;
     fitsTold = true;
+    differTold = true;
     axis = true;
     heading = false;
 
     constructor({run, at, scale, hero, wide, unit, low = false, order = new Map(), parted = 0, fitsTold = true,
-        room = Infinity, axis = true, heading = false}) {
+        differTold = true, room = Infinity, axis = true, heading = false}) {
         const n = run.processes, narrow = wide < 42 * unit;
-        Object.assign(this, {run, at, scale, wide, u: unit, low, order, parted, narrow, n, fitsTold, axis, heading});
+        Object.assign(this, {run, at, scale, wide, u: unit, low, order, parted, narrow, n, fitsTold, differTold, axis,
+            heading});
         this.gutter = (narrow ? 1.9 : 6) * unit;
-        this.end = (narrow ? .5 : 1) * unit;
+        this.end = this.labelWide() + .7 * unit;
         this.perItem = (wide - this.gutter - this.end) / scale;
         this.band = {top: (heading ? 1.15 : .2) * unit, high: (low ? 1.5 : 1.8) * unit};
         this.fits = {top: this.band.top + this.band.high + .3 * unit, high: (low ? 1.4 : 1.7) * unit};
@@ -39,6 +41,12 @@ class Chart {
         this.borrowers = borrowersOf(run, scan);
         this.lenders = new Set(this.borrowers.map(({borrowed}) => borrowed.scan));
         this.letters = low ? n > 2 ? .75 : .85 : n > 2 ? .85 : .95;
+    }
+
+    // How wide the words of memory are, which stand to the right of the position where they have no room before it.
+    labelWide() {
+        const most = Math.max(...this.run.memory.map(({values}) => viewWords(values).length));
+        return this.width('0 '.repeat(Math.ceil((most + 1) / 2)).trim(), this.low ? .9 : 1);
     }
 
     // How high a lane is, in letters.
@@ -104,7 +112,7 @@ class Chart {
         const left = this.place(from), right = this.place(Math.min(to + 1, at));
         const wide = at === from && !at ? own : Math.max(right - left, 2), fits = wide >= own - .6 * u;
         this.put(box(left + 1, band.top, wide - 2, band.high, 'held', .25 * u, `memory held ${words}`));
-        const x = fits ? left + .5 * u : Math.min(this.place(at) + .45 * u, this.wide - own + .9 * u);
+        const x = fits ? left + .5 * u : this.place(at) + .45 * u;
         if (fits || to >= at) this.put(text(words, x, band.top + band.high * .7, 'held-words'));
     }
 
@@ -122,8 +130,8 @@ class Chart {
         else this.put(path(openBox(left, right, top, high, r), about));
         const room = this.drawHead(operation, {left, right, wide, top, head, bad, over});
         for (const scan of operation.scans) {
-            if (operation.kind === 'scan') this.drawCollects(scan, base, high, low || this.narrow ? 0 :
-                room.right - .6 * u);
+            if (operation.kind === 'scan') this.drawCollects(scan, base, high, low || this.narrow ? [0, 0] :
+                [room.left + .5 * u, room.right - .6 * u]);
             else if (scan.call <= at) this.drawInner(scan, {...room, top, head, high, base});
         }
     }
@@ -140,7 +148,7 @@ class Chart {
             const long = `answers ${answer}`, whole = this.width(long) + u +
                 (fit ? fitWide + .7 * u + indent : 0) < wide;
             const say = whole ? long : answer, own = this.width(say) + .9 * u, y = top + (low ? .12 : .22) * u;
-            const about = bad ? 'bad' : this.lenders.size && operation === this.told ? 'lent' : '';
+            const about = bad ? 'bad' : operation.scans[0]?.borrowed ? 'lent' : '';
             room = right - own - .3 * u;
             this.above.push(box(room, y, own, head - (low ? 0 : .12) * u, `pill ${about}`, .3 * u));
             this.above.push(text(say, room + own / 2, top + .12 * u + head * .72, `pill-words ${bad ? 'bad' : ''}`));
@@ -157,15 +165,16 @@ class Chart {
         const to = this.place(done ? scan.end : at), lends = this.lenders.has(scan.call);
         this.put(box(from, top + head + .05 * u, to - from, high - head - .3 * u, `inner ${lends ? 'lent' : ''}`,
             .3 * u, 'the scan of its own, before it writes'));
-        this.drawCollects(scan, base, high, 0);
+        this.drawCollects(scan, base, high, [0, 0]);
         if (!done || !scan.answer || this.narrow || this.low && this.n > 2) return;
         const words = `saw ${viewWords(scan.answer)}`, x = Math.min(to, right - .3 * u);
         if (x - this.width(words, .82) > left + .4 * u)
             this.put(text(words, x, top + .1 * u + head * .74, `saw ${lends ? 'lent' : ''}`));
     }
 
-    // The reads of each double collect, its test, and where that passed the gap.
-    drawCollects(scan, y, high, most) {
+    // The reads of each double collect, its test, and where that passed the gap; the names of the locals stand in a
+    // room.
+    drawCollects(scan, y, high, room) {
         const {at, u} = this, tall = Math.min(1.6 * u, high * .42);
         for (const collect of scan.collects) {
             const {reads, test} = collect, gap = test && test.item <= at ? sureGap(scan, collect) : null;
@@ -175,14 +184,14 @@ class Chart {
             const last = reads.at(-1).into, two = reads.some(({into}) => into !== last);
             for (const second of [false, true])
                 this.drawReads(collect, reads.filter(({into}) => (two && into === last) === second),
-                    {second, y, high, most});
+                    {kind: second ? 'b' : two ? 'a' : 'a only', y, high, room});
             if (test && test.item <= at) this.drawTest(this.place(test.item), y, test);
         }
     }
 
     // The reads of one collect, of each word the last one; earlier ones, of a handshake, are faint.
-    drawReads({reads: all}, reads, {second, y, high, most}) {
-        const {at, u, run} = this, kind = second ? 'b' : 'a', past = reads.filter(({item}) => item <= at);
+    drawReads({reads: all}, reads, {kind, y, high, room: [least, most]}) {
+        const {at, u, run} = this, past = reads.filter(({item}) => item <= at);
         const isLast = one => !reads.some(({word, item}) => word === one.word && item > one.item),
             own = past.filter(isLast);
         const r = Math.min(.58 * u, high * .17, Math.max(this.perItem * .5, 2.6)), digits = r >= .45 * u;
@@ -192,11 +201,13 @@ class Chart {
         const [first, last] = [this.place(own[0].item), this.place(own.at(-1).item)], has = one =>
             run.steps[one.item - 1].has;
         this.put(rule(first, y, last, y, 'collect'));
-        if ((first + last) / 2 < most) this.above.push(text(own[0].into, (first + last) / 2, y - r - .2 * u,
-            'collect-name'));
+        const middle = Math.max((first + last) / 2, least);
+        if (middle < Math.min(most, last + u))
+            this.above.push(text(own[0].into, middle, y - r - .2 * u, 'collect-name'));
         for (const one of own) {
-            const before = second && all.findLast(({word, into}) => word === one.word && into !== one.into);
-            const other = before && isOther(has(before), has(one)) ? 'other' : '', x = this.place(one.item);
+            const before = kind === 'b' && all.findLast(({word, into}) => word === one.word && into !== one.into);
+            const other = this.differTold && before && isOther(has(before), has(one)) ? 'other' : '';
+            const x = this.place(one.item);
             this.put(dot(x, y, r, `read ${kind} ${other}`,
                 title(`item ${one.item}: reads r[${one.word}] into ${one.into}`)));
             if (digits) this.put(text(String(one.word), x, y + .27 * u, `read-word ${kind} ${other}`));

@@ -94,15 +94,15 @@ function wordCells({word, memory, a, b, equal}, {lender, who}, {folded, lit, two
 }
 
 function movesCell({word}, {who, moved}, need) {
-    const own = word === who ? make('span', {className: 'self'}, 'itself') :
-        pips(moved[word - 1] ?? 0, need, `process ${word}`);
-    return make('td', {className: 'moves'}, own);
+    const own = word === who ? make('span', {className: 'self', title: 'a scan does not count its own process'},
+        'its own') : pips(moved[word - 1] ?? 0, need, `process ${word}`);
+    return make('td', {className: 'moves'}, ...who ? [own] : []);
 }
 
 // Where words belong to nobody, who has moved stands below them, process by process.
 function movesRow(run, {who, moved}, need, columns) {
-    const all = Array.from({length: run.processes}, (_, k) => make('span', {className: 'mover'}, badge(k + 1),
-        k + 1 === who ? make('span', {className: 'self'}, 'itself') : pips(moved[k] ?? 0, need, `process ${k + 1}`)));
+    const all = Array.from({length: who ? run.processes : 0}, (_, k) => make('span', {className: 'mover'}, badge(k + 1),
+        k + 1 === who ? make('span', {className: 'self'}, 'scans') : pips(moved[k] ?? 0, need, `process ${k + 1}`)));
     return make('tr', {className: 'movers'}, make('th', {scope: 'row'}, 'moved'),
         make('td', {colSpan: columns - 2}, ...all));
 }

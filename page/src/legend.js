@@ -3,7 +3,8 @@ import {make} from './elements.js';
 import {box, dot, drawn, path} from './drawing.js';
 
 const MARKS = [
-    ['read a', 'first collect', '.read.a', 'a read of the first collect; the digit names the register'],
+    ['read a', 'first collect', '.read.a:not(.only)', 'a read of the first collect; the digit names the register'],
+    ['read a', 'a read', '.read.a.only', 'a read of the collect; the digit names the register'],
     ['read b', 'second collect', '.read.b:not(.other)', 'a read of the second collect'],
     ['read b other', 'it differs', '.read.other', 'somebody wrote this word between its two reads'],
     ['test passed', 'all equal', '.test.passed', 'the test passes'],

@@ -1,10 +1,9 @@
 // A lesson on paper: a page a screen.
 import {$, make} from './elements.js';
 import {runChart} from './chart.js';
-import {collectsOf, collectsTable} from './collects.js';
+import {collectsTable} from './collects.js';
 import {rich} from './caption.js';
-import {scanAt} from './run.js';
-import {bothRuns, heroAt, stage, storyNow} from './stage.js';
+import {bothRuns, heroAt, hides, readOf, stage, storyNow} from './stage.js';
 
 // pixels of the picture on a page, of a letter, and of each of two pictures
 const WIDE = 1000, UNIT = 16, EACH_HIGH = 270;
@@ -17,11 +16,10 @@ function wordsOf({title, body = '', options = []}, k) {
 }
 
 function pictureOf(screen, k) {
-    const {run: name, at, hide} = screen, run = stage.runs[name], hero = heroAt(k), {folded = []} = storyNow().story;
-    const {root} = runChart({run, at, scale: Math.max(run.items, 1), hero, wide: WIDE, unit: UNIT, fitsTold: hide !==
-        'fits'});
-    const told = collectsOf(run, scanAt(run, hero, at)?.scans[0] ?? null, at);
-    return [root, collectsTable(run, told, {folded, need: run.need})];
+    const {run: name, at} = screen, run = stage.runs[name], {folded = []} = storyNow().story;
+    const {root} = runChart({run, at, scale: Math.max(run.items, 1), hero: heroAt(k), wide: WIDE, unit: UNIT,
+        fitsTold: !hides(screen, 'fits'), differTold: !hides(screen, 'equal')});
+    return [root, collectsTable(run, readOf(run, k, at), {folded, need: run.need})];
 }
 
 function sheetOf(screen, k) {

@@ -13,8 +13,9 @@ import {runChart} from './chart.js';
 import {collectsOf, collectsTable, flyWord} from './collects.js';
 import {legendOf} from './legend.js';
 import {reasonsOf, showReasons} from './reasons.js';
-import {callWords, partedAt, prepared, scanAt, toldAt, viewWords} from './run.js';
-import {sentenceOf, showStep} from './steps.js';
+import {misfitOf, orderOf, orderWords} from './order.js';
+import {partedAt, prepared, scanAt, toldAt, viewWords} from './run.js';
+import {changedLines, sentenceOf, showChange, showStep} from './steps.js';
 import {isStory, nextIdea, numberOf, screensOf} from './story.js';
 import {fitTimeline} from './timeline.js';
 
@@ -31,6 +32,20 @@ const screenNow = () => stage.screens[stage.k];
 const runNow = () => stage.runs[screenNow()?.run] ?? null;
 export const heroAt = k => stage.screens[k]?.hero ?? storyOf().hero ?? 1;
 const heroOf = () => heroAt(stage.k);
+export const hides = (screen, what) => screen.hide?.split(' ').includes(what) ?? false;
+
+// The scan whose reads a screen shows: of a process that it names itself that of an update, too.
+function scanOf(run, k, at) {
+    const {hero} = stage.screens[k];
+    const own = hero && run.scans.findLast(({process, call}) => process === hero && call <= at);
+    return own || (scanAt(run, heroAt(k), at)?.scans[0] ?? null);
+}
+
+// What a scan has read, as a screen shows it.
+export function readOf(run, k, at) {
+    const told = collectsOf(run, scanOf(run, k, at), at), all = told.rows.map(row => ({...row, equal: null}));
+    return hides(stage.screens[k], 'equal') ? {...told, rows: all} : told;
+}
 export const letter = () => parseFloat(getComputedStyle(document.documentElement).fontSize);
 
 // Opens a lesson at a screen, once the anatomies of its run and of its changed run are there.
@@ -147,32 +162,40 @@ const isUnexplained = ({order}, scan, at) => order.verdict === 'not linearizable
     order.event <= at;
 
 function showRun(screen, run) {
-    const {at, rest} = stage, {folded = []} = storyOf(), hero = heroOf(), fitsTold = screen.hide !== 'fits';
-    showChart(run, fitsTold);
-    const called = scanAt(run, hero, at), scan = called?.scans[0] ?? null, told = collectsOf(run, scan, at),
-        step = run.steps[at - 1];
+    const {at, rest, k} = stage, {folded = []} = storyOf(), fitsTold = !hides(screen, 'fits');
+    showChart(run, fitsTold, !hides(screen, 'equal'));
+    const told = readOf(run, k, at), {scan} = told, step = run.steps[at - 1];
     const read = step?.does === 'read' && scan && step.process === scan.process && at >= scan.call ? step : null;
     const column = read && told.locals.indexOf(read.into) === 1 ? 'b' : 'a', wrote = step?.does === 'wrote' ?
         step.word : 0;
     const lit = {memory: wrote, ...read ? {[column]: read.word} : {}, wrong: fitsTold && isUnexplained(run, scan, at)};
-    const why = fitsTold && rest && told.answer ? askWhy : null;
+    const why = fitsTold && rest && told.answer && scan.update === null ? askWhy : null;
     fill($('stage-collects'), [run, JSON.stringify([told, folded, lit]), Boolean(why)], () =>
         [collectsTable(run, told, {folded, lit, need: run.need, why})]);
     if (read && stage.shownAt === at - 1) flyWord($('stage-collects'), read.word, column);
-    const answered = stage.why && toldAt(run, hero, at)?.scans[0];
-    if (answered) showReasons($('stage-step'), {view: viewWords(answered.answer), reasons: reasonsOf(run, answered)},
-        goBeside, askWhy);
-    else showStep($('stage-step'), {run, lines: run.lines, at});
+    showBeside(screen, run);
     showHeard(run, at);
 }
 
-function showChart(run, fitsTold) {
+// Beside the table: the step and its line, why the scan answered so, or what a change makes of the listing.
+function showBeside(screen, run) {
+    const {at, rest, runs} = stage, answered = stage.why && toldAt(run, heroOf(), at)?.scans[0];
+    const changed = screen.change && rest && at === screen.at ? changedLines(runs.lesson, runs.change) : [];
+    const wrong = misfitOf(run, at), misfit = wrong && wrong.call === answered?.call ? wrong.reason : '';
+    if (answered) showReasons($('stage-step'), {view: viewWords(answered.answer),
+        reasons: reasonsOf(run, answered, misfit)}, goBeside, askWhy);
+    else if (changed.length) showChange($('stage-step'), changed);
+    else showStep($('stage-step'), {run, lines: run.lines, at});
+}
+
+function showChart(run, fitsTold, differTold) {
     const {at} = stage, box = $('stage-chart'), wide = stage.wide || box.clientWidth;
-    const key = [run, at, wide, letter(), fitsTold, heroOf()];
+    const key = [run, at, wide, letter(), fitsTold, differTold, heroOf()];
     const words = `step ${at} of ${run.items}: ${sentenceOf(run, at, run.lines)}`;
     Object.assign(box, {ariaValueMax: run.items, ariaValueNow: at, ariaValueText: words});
     if (!wide || key.every((each, k) => each === stage.drawn[k])) return;
-    const chart = runChart({run, at, scale: Math.max(run.items, 1), hero: heroOf(), wide, unit: letter(), fitsTold});
+    const chart = runChart({run, at, scale: Math.max(run.items, 1), hero: heroOf(), wide, unit: letter(), fitsTold,
+        differTold});
     const cursor = $('stage-cursor');
     Object.assign(stage, {chart, drawn: key});
     cursor.classList.toggle('moves', !stage.rest && stage.shownAt === at - 1);     // it glides where items play
@@ -207,17 +230,6 @@ function askWhy() {
 
 const CALLS = {'linearizable': ['\u2713', ''], 'not linearizable': ['\u2717', 'bad'], 'undecided': ['?', '']};
 
-// The order that explains a run, or what no order explains.
-export function orderWords(run) {
-    const {verdict, order, misfit} = run.order, one = call => run.operations.find(each => each.call === call);
-    const named = order.map(one).filter(Boolean).map((each, k) => `${callWords(each)} (${k + 1})`).join(', then ');
-    const wrong = one(misfit), answers = wrong?.answer ? `the ${wrong.kind} that answers ${viewWords(wrong.answer)}` :
-        'what follows';
-    if (verdict === 'linearizable') return named ? `This order explains it: ${named}.` : 'Nothing is to be explained.';
-    if (verdict === 'not linearizable') return `No order explains ${answers}${named ? `: before it ${named}` : ''}.`;
-    return 'No order was found in time.';
-}
-
 // Two runs below each other, on one scale.
 function showBoth() {
     const {runs, wide: known} = stage, box = $('stage-compare'), wide = box.clientWidth || known, unit = letter();
@@ -234,7 +246,7 @@ export function bothRuns({runs}, {wide, unit, room, hero}) {
     const names = {lesson: 'As it was', change: 'With the change'};
     return Object.entries(names).map(([name, title]) => {
         const run = runs[name], [sign, className] = CALLS[run.order.verdict] ?? ['', ''], words = orderWords(run);
-        const order = new Map(className ? [] : run.order.order.map((call, k) => [call, k + 1]));
+        const order = new Map(className ? [] : orderOf(run).map((call, k) => [call, k + 1]));
         const {root} = runChart({run, at: run.items, scale, hero, wide, unit, room, low: true, order, parted,
             heading: name === 'lesson' && parted > 0, axis: name === 'change'});
         const judged = make('span', {className: `judged ${className}`}, `${sign}\u2002`, words);

@@ -2,7 +2,7 @@
 import {badge, fill, make} from './elements.js';
 import {callWords, viewWords} from './run.js';
 
-const LINES_AROUND = 5;
+const LINES_AROUND = 5, MOST_CHANGED = 3;
 const INSTRUCTIONS = {
     each: 'sets a row, for each process', let: 'sets a local', get: 'reads a register, all of it at once',
     next: 'goes on to the next one, until all are done', if: 'goes on elsewhere, if this holds',
@@ -32,7 +32,8 @@ const WORDS = {
     answered: ({view}) => `answers ${viewWords(view)}.`,
     finished: () => 'has ended its update.', crashed: () => 'crashes: it stops for good.', trapped: () =>
         'traps: it cannot go on.',
-    skipped: () => 'is skipped: it has nothing to do.',
+    skipped: ({item, process}, {steps}) => steps.some(one => one.does === 'crashed' && one.process === process &&
+        one.item < item) ? 'makes no step: it has crashed.' : 'is skipped: it has nothing to do.',
 };
 
 // What an item did: the line that ran, and words that go on behind the process. An item 0 has done nothing.
@@ -47,13 +48,34 @@ export function stepOf(run, at, lines) {
 // What a line that reads and writes nothing led to, by the line at which its process stands behind it.
 function jumpWords(run, at, text) {
     const {process, line} = run.steps[at - 1], later = run.steps.slice(at).find(step => step.process === process);
+    const [verb, name = '', bound = '', from = ''] = text.split(' ');
     const target = Number(text.split('goto ')[1] ?? 0), jumps = later?.line === target;
-    if (!later) return `${glossOf(text)}.`;
-    return {goto: `goes ${target < line ? 'back' : 'on'} to line ${target}.`,
-        if: jumps ? `finds that this holds, and goes on at line ${target}.` : 'finds that this does not hold.',
-        first: jumps ? `finds one, and goes on at line ${target}.` : 'finds none.',
-        next: jumps ? 'goes on with the next one.' : 'has been through all of them.',
-    }[text.split(' ')[0]] ?? `${glossOf(text)}.`;
+    const always = {goto: `goes ${target < line ? 'back' : 'on'} to line ${target}.`, let: `sets ${name}.`,
+        put: `writes ${name}.`, bit: `reads ${from} into ${name}.`}[verb];
+    if (always || !later) return always ?? `${glossOf(text)}.`;
+    const kind = bound.startsWith('w') ? 'word' : 'process';
+    return {if: jumps ? `finds that this holds: on to line ${target}.` : 'finds that this does not hold.',
+        first: jumps ? `finds such a ${kind}: on to line ${target}.` : `finds no such ${kind}.`,
+        next: jumps ? `takes the next ${name}: back to line ${target}.` :
+            `has had each ${name}, from 1 to ${bound}.`,
+    }[verb] ?? `${glossOf(text)}.`;
+}
+
+// The names of a listing that stand for something else in each run, or in each step.
+const NAMES = {
+    w: ({words}) => many(words, 'word'),
+    n: ({kind, processes}) => `${many(processes, 'process')}${kind === 'multi' ? '' : ', each with its word'}`,
+    '@': ({processes}) => `each of 1 to ${processes}`,
+    me: (run, {process}) => `process ${process}`,
+    arg: (run, {process, item}) => run.operations.findLast(one => one.process === process && one.call <= item)?.value,
+};
+const many = (count, what) => `${count} ${what}${count === 1 ? '' : what.endsWith('s') ? 'es' : 's'}`;
+
+// What the names stand for that some lines have, at a step.
+function namesIn(run, step, texts) {
+    const used = new Set(texts.flatMap(one => one.split(/[^\w@]+/)));
+    return Object.keys(NAMES).filter(name => used.has(name)).map(name => [name, NAMES[name](run, step)])
+        .filter(([, told]) => told !== undefined);
 }
 
 // A row that is set behind a test tells who has moved, and how often.
@@ -79,8 +101,30 @@ export function showStep(box, {run, lines, at}) {
     const row = ({number, text}) => make('div', {className: number === step.line ? 'line here' : 'line',
         title: glossOf(text)},
         make('small', {}, String(number)), make('code', {}, text));
+    const names = namesIn(run, run.steps[at - 1], shown.map(({text}) => text));
+    const namesRow = () => make('p', {className: 'step-names'}, ...names.flatMap(([name, told]) =>
+        [make('span', {}, make('code', {}, name), `: ${told}`), ' ']));
     fill(box, [step.who, step.line, step.words, at, run.items], () => [
         make('p', {className: 'step-at'}, at ? `Step ${at} of ${run.items}` : `${run.items} steps`),
         make('p', {className: 'step-words'}, ...step.who ? [badge(step.who), ' '] : [], make('span', {}, step.words)),
-        ...shown.length ? [make('div', {className: 'step-lines'}, ...shown.map(row))] : []]);
+        ...shown.length ? [make('div', {className: 'step-lines'}, ...shown.map(row)), namesRow()] : []]);
+}
+
+// The lines that a change has made others, old beside new, where they are few.
+export function changedLines({lines: older}, {lines: newer}) {
+    const all = [...new Set([...older.keys(), ...newer.keys()])].sort((one, other) => one - other);
+    const found = all.map(number => ({number, was: older.get(number)?.text ?? '', is: newer.get(number)?.text ?? ''}))
+        .filter(({was, is}) => was !== is);
+    return found.length > MOST_CHANGED ? [] : found;
+}
+
+export function showChange(box, changed) {
+    const row = (className, sign, number, text) => make('div', {className: `line ${className}`},
+        make('small', {}, `${sign}\u2009${number}`), make('code', {}, text));
+    const [{number: first, was, is}, ...others] = changed, more = others.map(({number}) => number).join(' and ');
+    fill(box, ['change', JSON.stringify(changed)], () => [make('p', {className: 'step-at'}, 'The change'),
+        make('p', {className: 'step-words'},
+            `Line ${first} becomes another one${more ? `, and so does ${more}` : ''}.`),
+        make('div', {className: 'step-lines'}, ...was ? [row('was', '\u2212', first, was)] : [],
+            ...is ? [row('here', '+', first, is)] : [])]);
 }

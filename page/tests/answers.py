@@ -128,9 +128,14 @@ def try_gallery(tab, count):
         server.server_close()
 
 
+def drawings():
+    """The files of docs/pictures that bin/snapdraw draws."""
+    return sorted(name for name in os.listdir(os.path.join(TOP, "docs", "pictures")) if name.endswith(".svg"))
+
+
 def try_pictures(tab, count):
     """The pictures of docs/pictures, which bin/snapdraw draws; those of shipped listings are passed over, since the page has a listing."""
-    for name in sorted(os.listdir(os.path.join(TOP, "docs", "pictures"))):
+    for name in drawings():
         example = os.path.join(TOP, "examples", name.removesuffix(".svg"))
         if "--shipped" in read(os.path.join(example, "args"), "r"):
             continue
@@ -288,7 +293,7 @@ def lines_of_picture(svg):
 
 def try_shapes(tab, count):
     """What the time line draws is what the pictures of docs/pictures draw, which bin/snapdraw makes."""
-    for name in sorted(os.listdir(os.path.join(TOP, "docs", "pictures"))):
+    for name in drawings():
         example = os.path.join(TOP, "examples", name.removesuffix(".svg"))
         if "--shipped" in read(os.path.join(example, "args"), "r"):
             continue

@@ -67,7 +67,7 @@ def try_listening(page, count, running):
     shown.key(".", "x")
     why = shown.text("#stage-step")
     count.check("why is told in sentences, its conclusion first", why.split("\n")[2:3] != [] and "Right: memory held 0 5 from step 24 to 53." in why and
-                "Process 1 borrowed it 63" in " ".join(why.split()), why)
+                "Process 1 borrowed at 63 what process 2 wrote at 54;" in " ".join(why.split()), why)
     slider = shown.run("document.getElementById('stage-chart').getAttribute('aria-valuetext')")
     count.check("the position is told by the picture", slider == "step 64 of 64: Process 1 answers 0 5.", slider)
     shown.tab.close()
@@ -120,7 +120,7 @@ def try_without_script(page, count, running):
         return any(one.startswith("15. ") for one in told)
     browser.wait_for("the lessons without a script", names)
     count.check("without a script all lessons are there in words", all(any(one.startswith(f"{k}. ") for one in told) for k in range(16)) and
-                "It borrows the view 0 5." in told, told[:5])
+                "It answers 0 5: it borrows the view in r[2]." in told, told[:5])
     tab.close()
     size = os.path.getsize(browser.PAGE)
     count.check(f"the page has at most {LARGEST} bytes", size <= LARGEST, size)

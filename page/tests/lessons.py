@@ -23,10 +23,12 @@ CUT = """(desk => { const all = [...document.querySelectorAll('#stage *')].filte
         (e.scrollWidth > e.clientWidth + 1 || desk && e.scrollHeight > e.clientHeight + 1) && !e.matches('.step-lines code, #stage-menu'));
     const full = [...document.querySelectorAll('#stage .word, #stage td.answer > span, #stage .option, #stage-next')].filter(e =>
         e.checkVisibility() && (e.scrollWidth > e.clientWidth + 1 || e.scrollHeight > e.clientHeight + 1));
+    const drawn = [...document.querySelectorAll('#stage svg.run text')].filter(e => e.checkVisibility() &&
+        e.getBoundingClientRect().right > e.ownerSVGElement.getBoundingClientRect().right + 1);
     const foot = document.getElementById('stage-foot').getBoundingClientRect().top, over = desk ? [...document.querySelectorAll(
         '#stage-collects, #stage-step, #stage-compare svg, #stage-legend')].filter(e => e.checkVisibility() && [...e.children, e].some(one =>
         one.getBoundingClientRect().bottom > foot + 1)) : [];
-    return [...beyond, ...scrolls, ...full, ...over].map(e => e.id || `${e.tagName}.${e.getAttribute('class')}`); })"""
+    return [...beyond, ...scrolls, ...full, ...drawn, ...over].map(e => e.id || `${e.tagName}.${e.getAttribute('class')}`); })"""
 
 
 class Lessons:

@@ -21,7 +21,7 @@ from claims import WHERE, Lessons, Wrong, flat, latest  # noqa: E402
 
 TITLE, BODY, OPTION, OPTIONS = 70, 240, 48, 115
 LOOKS = {"gap", "fits", "inner", "write", "equal", "moved", "view", "why"}
-HIDES = {"fits"}
+HIDES = {"fits", "equal"}
 STORY, SCENE = {"hero", "folded", "start", "scenes", "change", "compare"}, {
     "at", "title", "body", "doing", "look", "before", "hide", "hideBefore", "later", "hero", "claims", "ask", "options", "right", "means"}
 TIMES = {"once": 1, "twice": 2, "three times": 3}
